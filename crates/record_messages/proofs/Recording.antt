@@ -1,6 +1,6 @@
 -- What becomes of the tokens is the text, records alone change, and a text without records stays.
-use Rattle.std.specs.Prelude.{nat_lt, ◌-◌, ◌==◌}
-use Rattle.std.proofs.Common.{◌≡◌, ℕ, Bool, true, false, not, cond, ◌&&◌, ◌||◌, ⊤, List, [], ◌∷◌, ◌++◌, sym, refl, ap, ◌∙◌, All, arith}
+use Rattle.std.specs.Prelude.{nat_lt, ◌-◌, ◌==◌, ⊤}
+use Rattle.std.proofs.Common.{◌≡◌, ℕ, Bool, true, false, not, cond, ◌&&◌, List, [], ◌∷◌, ◌++◌, refl, ap, ◌∙◌, All, arith}
 use Rattle.std.proofs.lemmas.Bool.{false≢true}
 use Rattle.std.proofs.lemmas.List.Elements.{All-cons}
 use Rattle.pml_token.specs.declared.token.Kind.{Kind}
@@ -22,8 +22,8 @@ use Rattle.record_messages.specs.Variable.{Variable}
 use Rattle.record_messages.specs.Variables.{record_of}
 use Rattle.record_messages.specs.Places as places
 use Rattle.record_messages.specs.Places.{behind}
-use Rattle.record_messages.specs.Changed.{Loop, Changed}
-use Rattle.record_messages.specs.Changes.{is_in, closes, is_indexed, opens_loop, is_loop, is_alone, change_of_channel, change_at, change_or_loop, loop_behind, changes_by, changes}
+use Rattle.record_messages.specs.Changed.{Loop}
+use Rattle.record_messages.specs.Changes.{goes_over, ends_head, opens_loop, is_loop, is_alone, change_at, change_or_loop, loop_behind, changes_by, changes}
 use Rattle.record_messages.specs.Writing.{shown_by, written}
 use Rattle.record_messages.specs.Laws.{owns, IsOwn}
 
@@ -156,7 +156,7 @@ no_loop_opens (o ∷ []) = refl
 no_loop_opens (o ∷ v ∷ []) = refl
 no_loop_opens (o ∷ v ∷ i ∷ []) = refl
 no_loop_opens (o ∷ v ∷ i ∷ c ∷ ts) =
-    none_opens (same_kind o.kind kind.OpenParen) (same_kind v.kind kind.Name) ((is_in i && same_kind c.kind kind.Name) && (closes ts || is_indexed ts))
+    none_opens (same_kind o.kind kind.OpenParen) (same_kind v.kind kind.Name) (goes_over i c && ends_head ts)
 
 begun_quiet : (k : Kind) → IsQuiet (places.begun k)
 begun_quiet kind.Of = _

@@ -1,5 +1,5 @@
 -- What becomes of the tokens of a text where records are messages.
-use Rattle.std.specs.Prelude.{ℕ, ◌+◌, Bool, true, false, not, ◌&&◌, ◌||◌, nat_lt, min, if◌then◌else◌, List, [], ◌∷◌}
+use Rattle.std.specs.Prelude.{ℕ, ◌+◌, Bool, false, not, ◌&&◌, ◌||◌, nat_lt, min, if◌then◌else◌, List, [], ◌∷◌}
 use Rattle.std.specs.Str.{bytes_eq}
 use lib.Chars.{codes}
 use Rattle.pml_token.specs.declared.token.Kind.{Kind}
@@ -34,11 +34,21 @@ abbrev pub is_indexed : List Written → Bool
 is_indexed (o ∷ i ∷ c ∷ ts) = (same_kind o.kind kind.OpenBracket && is_index i.kind) && (same_kind c.kind kind.CloseBracket && closes ts)
 is_indexed _ = false
 
+-- whether the head of a loop ends here, behind its channel
+abbrev pub ends_head : List Written → Bool
+ends_head ts = closes ts || is_indexed ts
+
+-- whether these are `(` and a record
+abbrev pub begins_head : List Variable → Written → Written → Bool
+begins_head vs o v = same_kind o.kind kind.OpenParen && (same_kind v.kind kind.Name && not (is_empty (record_of vs v.token)))
+
+-- whether these are `in` and a channel
+abbrev pub goes_over : Written → Written → Bool
+goes_over i c = is_in i && same_kind c.kind kind.Name
+
 -- whether `(`, a record, `in`, a channel and a body stand here
 abbrev pub opens_loop : List Variable → List Written → Bool
-opens_loop vs (o ∷ v ∷ i ∷ c ∷ ts) =
-    (same_kind o.kind kind.OpenParen && (same_kind v.kind kind.Name && not (is_empty (record_of vs v.token))))
-    && ((is_in i && same_kind c.kind kind.Name) && (closes ts || is_indexed ts))
+opens_loop vs (o ∷ v ∷ i ∷ c ∷ ts) = begins_head vs o v && (goes_over i c && ends_head ts)
 opens_loop vs _ = false
 
 -- whether a token begins a loop over messages, where n are made before it: behind a label none is

@@ -44,12 +44,13 @@ indexed i = if is_empty i then [] else codes "[" ++ (i ++ codes "]")
 abbrev pub channel : Loop → List ℕ
 channel l = l.channel ++ indexed l.index
 
--- a message is received, and sent again
-abbrev pub turned : List ℕ → List ℕ → List ℕ
-turned channel fields = codes " " ++ (channel ++ (codes "?" ++ (fields ++ (codes "; " ++ (channel ++ (codes "!" ++ (fields ++ codes ";")))))))
+-- the sign of an operation stands between a channel and the fields of a message
+abbrev pub operation : List ℕ → List Member → List Variable → Loop → List ℕ
+operation sign ms vs l = channel l ++ (sign ++ fields true ms (record_of vs l.name) l.name)
 
+-- a message is received, and sent again
 abbrev pub turn : List Member → List Variable → Loop → List ℕ
-turn ms vs l = turned (channel l) (fields true ms (record_of vs l.name) l.name)
+turn ms vs l = codes " " ++ (operation (codes "?") ms vs l ++ (codes "; " ++ (operation (codes "!") ms vs l ++ codes ";")))
 
 abbrev pub declared : List ℕ → ℕ → List ℕ → List ℕ
 declared joint n t = codes "byte " ++ (counter joint n ++ (codes "; " ++ t))

@@ -151,17 +151,36 @@ fn is_indexed(stretches: &[Stretch<'_>]) -> bool
     }
 }
 
+/// Whether the head of a loop ends here, behind its channel.
+fn ends_head(stretches: &[Stretch<'_>]) -> bool
+    ensures { result ≡ changes.ends_head stretches.now }
+{
+    closes(stretches) || is_indexed(stretches)
+}
+
+/// Whether these are `(` and a record.
+fn begins_head(records: &[Variable<'_>], opening: &Stretch<'_>, variable: &Stretch<'_>) -> bool
+    ensures { result ≡ changes.begins_head records.now opening.now variable.now }
+{
+    same_kind(opening.kind(), Kind::OpenParen)
+        && (same_kind(variable.kind(), Kind::Name)
+            && !record_of(records, variable.token()).is_empty())
+}
+
+/// Whether these are `in` and a channel.
+fn goes_over(word: &Stretch<'_>, channel: &Stretch<'_>) -> bool
+    ensures { result ≡ changes.goes_over word.now channel.now }
+{
+    is_in(word) && same_kind(channel.kind(), Kind::Name)
+}
+
 /// Whether `(`, a record, `in`, a channel and a body stand at the front of stretches.
 fn opens_loop(records: &[Variable<'_>], stretches: &[Stretch<'_>]) -> bool
     ensures { result ≡ changes.opens_loop records.now stretches.now }
 {
     match stretches {
         [opening, variable, word, channel, back @ ..] => {
-            (same_kind(opening.kind(), Kind::OpenParen)
-                && (same_kind(variable.kind(), Kind::Name)
-                    && !record_of(records, variable.token()).is_empty()))
-                && ((is_in(word) && same_kind(channel.kind(), Kind::Name))
-                    && (closes(back) || is_indexed(back)))
+            begins_head(records, opening, variable) && (goes_over(word, channel) && ends_head(back))
         }
         _ => false,
     }

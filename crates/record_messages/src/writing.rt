@@ -86,6 +86,22 @@ fn add_channel(out: &mut Vec<u8>, changed: &Changed<'_>) -> Result<(), AllocErro
     out.extend_from_slice(b"]")
 }
 
+// Adds an operation on the channel of a loop, by its sign.
+fn add_operation(
+    out: &mut Vec<u8>,
+    members: &[Member<'_>],
+    records: &[Variable<'_>],
+    sign: &[u8],
+    changed: &Changed<'_>,
+) -> Result<(), AllocError>
+    ensures { OnOk result (out.new.items ≡ out.old.items ++ writing.operation sign.now members.now records.now changed.now.loop) }
+{
+    let name = changed.name();
+    add_channel(out, changed)?;
+    out.extend_from_slice(sign)?;
+    add_fields(out, members, record_of(records, name), name)
+}
+
 // Adds the turn of a message: it is received, and sent again.
 fn add_turn(
     out: &mut Vec<u8>,
@@ -95,16 +111,10 @@ fn add_turn(
 ) -> Result<(), AllocError>
     ensures { OnOk result (out.new.items ≡ out.old.items ++ writing.turn members.now records.now changed.now.loop) }
 {
-    let name = changed.name();
-    let word = record_of(records, name);
     out.extend_from_slice(b" ")?;
-    add_channel(out, changed)?;
-    out.extend_from_slice(b"?")?;
-    add_fields(out, members, word, name)?;
+    add_operation(out, members, records, b"?", changed)?;
     out.extend_from_slice(b"; ")?;
-    add_channel(out, changed)?;
-    out.extend_from_slice(b"!")?;
-    add_fields(out, members, word, name)?;
+    add_operation(out, members, records, b"!", changed)?;
     out.extend_from_slice(b";")
 }
 
