@@ -1,5 +1,5 @@
 -- What becomes of the tokens of a text where declarations are steps.
-use Rattle.std.specs.Prelude.{ℕ, Bool, true, false, not, ◌&&◌, ◌==◌, if◌then◌else◌, List, [], ◌∷◌}
+use Rattle.std.specs.Prelude.{ℕ, Bool, true, false, not, ◌&&◌, ◌||◌, ◌==◌, if◌then◌else◌, List, [], ◌∷◌}
 use Rattle.std.specs.Str.{bytes_eq}
 use lib.Chars.{codes}
 use Rattle.pml_token.specs.declared.token.Kind.{Kind}
@@ -46,9 +46,19 @@ abbrev pub is_set : Bool → List ℕ → List Written → Bool
 is_set is_array name [] = false
 is_set is_array name (t ∷ ts) = is_name name t && (if is_array then is_first_new name ts else is_new name ts)
 
+-- whether a `for` stands here, which assigns a number to the name at once
+abbrev pub is_counted : List ℕ → List Written → Bool
+is_counted name (w ∷ o ∷ t ∷ c ∷ n ∷ d ∷ ts) =
+    (same_kind w.kind kind.For && same_kind o.kind kind.OpenParen)
+    && (is_name name t && (same_kind c.kind kind.Colon && (same_kind n.kind kind.Number && same_kind d.kind kind.DotDot)))
+is_counted name _ = false
+
+abbrev pub is_given : Bool → List ℕ → List Written → Bool
+is_given is_array name ts = is_set is_array name ts || is_counted name ts
+
 -- a declaration without a value ends with 0, unless a value follows it at once
 abbrev pub change_of_end : Bool → Kind → List ℕ → List Written → Change
-change_of_end is_array k name ts = if same_kind k kind.Semicolon && is_set is_array name ts then change.Kept else change.Ended is_array
+change_of_end is_array k name ts = if same_kind k kind.Semicolon && is_given is_array name ts then change.Kept else change.Ended is_array
 
 -- a variable gets its value, or 0, and so does the first element of an array
 abbrev pub change_of_variable : Bool → Kind → List ℕ → List Written → Change

@@ -156,11 +156,34 @@ fn is_set(is_array: bool, name: &[u8], stretches: &[Stretch<'_>]) -> bool
     }
 }
 
+// Whether a `for` stands at the front of stretches, which assigns a number to a name at once.
+fn is_counted(name: &[u8], stretches: &[Stretch<'_>]) -> bool
+    ensures { result ≡ changes.is_counted name.now stretches.now }
+{
+    match stretches {
+        [word, opening, one, colon, number, dots, ..] => {
+            (same_kind(word.kind(), Kind::For) && same_kind(opening.kind(), Kind::OpenParen))
+                && (is_name(name, one)
+                    && (same_kind(colon.kind(), Kind::Colon)
+                        && (same_kind(number.kind(), Kind::Number)
+                            && same_kind(dots.kind(), Kind::DotDot))))
+        }
+        _ => false,
+    }
+}
+
+// Whether a value follows a declaration at once.
+fn is_given(is_array: bool, name: &[u8], stretches: &[Stretch<'_>]) -> bool
+    ensures { result ≡ changes.is_given is_array name.now stretches.now }
+{
+    is_set(is_array, name, stretches) || is_counted(name, stretches)
+}
+
 // What becomes of the end of a declaration without a value.
 fn change_of_end(is_array: bool, kind: Kind, name: &[u8], back: &[Stretch<'_>]) -> Change
     ensures { result ≡ changes.change_of_end is_array kind name.now back.now }
 {
-    if same_kind(kind, Kind::Semicolon) && is_set(is_array, name, back) {
+    if same_kind(kind, Kind::Semicolon) && is_given(is_array, name, back) {
         Change::Kept
     } else {
         Change::Ended(is_array)

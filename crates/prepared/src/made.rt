@@ -8,6 +8,7 @@ ghost use Rattle.prepare.specs.Spelling as as_spelling;
 ghost use Rattle.prepare.specs.Laws as laws;
 ghost use Rattle.mtype_commas.specs.Writing.{punctuated};
 ghost use Rattle.declared_steps.specs.Writing.{stepped};
+ghost use Rattle.record_messages.specs.Writing.{recorded};
 ghost use Rattle.prepared.specs.Made.{rewritten, TellsTokens, IsDivided, IsMadeOf, IsPreparedOf};
 
 use crate::given::How;
@@ -20,7 +21,7 @@ use computed_sizes::writing::with_sizes;
 use declared_steps::writing::{Stepped, with_steps};
 use mtype_commas::writing::with_commas;
 use names_apart::apart::{DividedText, divide_names};
-use names_apart::candidates::{Candidate, candidates};
+use names_apart::candidates::candidates;
 use pml_token::token::{Kind, same_kind};
 use prepare::MOST_BYTES;
 use prepare::changes::{exchanges, respelled};
@@ -29,6 +30,7 @@ use prepare::numbering::numbered;
 use prepare::spelling::spelled;
 use prepare::stretch::{Form, Stretch};
 use prepare::stretches::stretches;
+use record_messages::writing::with_fields;
 use std::alloc::{AllocError, Global};
 
 /// What is prepared of a text.
@@ -89,51 +91,51 @@ fn separated<'t>(
     Ok(WithSeparators { text, are_tokens })
 }
 
-// What is made of a text by its subtypes and its loops over arrays, and the names in it that may be divided.
-#[derive(Drop)]
-struct WithNames<'t> {
-    text: Vec<u8>,
-    names: Vec<Candidate<'t>>,
-}
-
 // What is made of it then by its subtypes and its loops over arrays, of which the report hears.
 fn exchanged<'t>(
     alloc: Global,
     text: &'t [u8],
     report: &mut Report<'t>,
-) -> Result<WithNames<'t>, AllocError>
-    ensures { IfOk result (λ e. e.text.items ≡ laws.exchanged text.now) }
+) -> Result<Vec<u8>, AllocError>
+    ensures { IfOk result (λ v. v.items ≡ laws.exchanged text.now) }
 {
     let tokens = stretches(alloc, text)?;
     let exchanges = exchanges(alloc, &tokens)?;
-    let names = candidates(alloc, &tokens)?;
     drop(tokens);
     for exchange in &exchanges {
         report.exchange(exchange);
     }
-    let text = respelled(alloc, &exchanges)?;
-    Ok(WithNames { text, names })
+    respelled(alloc, &exchanges)
 }
 
-// What is made of it at last by its declarations that are steps, and by its blocks and inlines that declare a name several times, of which the
-// report hears.
-fn divided<'t>(
+// What is made of it by its declarations that are steps, of which the report hears, and by its records that are messages.
+fn with_records(
     alloc: Global,
-    exchanged: WithNames<'t>,
-    report: &mut Report<'t>,
+    text: Vec<u8>,
+    report: &mut Report<'_>,
 ) -> Result<Vec<u8>, AllocError>
-    ensures { IfOk result (λ v. IsDivided (stepped exchanged.entry.text.items) v.items) }
+    ensures { IfOk result (λ v. v.items ≡ recorded (stepped text.items)) }
 {
-    let WithNames { text, names } = exchanged;
     let Stepped { text, lines } = with_steps(alloc, text)?;
     for line in &lines {
         report.add(What::Stepped, b"", *line);
     }
-    let DividedText { text, names } = divide_names(alloc, &names, text)?;
-    for candidate in &names {
-        report.add(What::Divided, candidate.name, candidate.line);
+    with_fields(alloc, text)
+}
+
+// Tells the report of the loops over arrays that are left.
+fn tell_loops<'t>(
+    alloc: Global,
+    tokens: &[Stretch<'t>],
+    report: &mut Report<'t>,
+) -> Result<(), AllocError> {
+    if report.has_loops() {
+        report.again();
+        for exchange in &exchanges(alloc, tokens)? {
+            report.left_loop(exchange);
+        }
     }
-    Ok(text)
+    Ok(())
 }
 
 // A text that is made, with what is said of it.
@@ -144,18 +146,26 @@ struct Made {
     is_left: bool,
 }
 
-// What is made of a text with its separators and its sizes, of which the report has heard.
-fn made_of_separated<'t>(
+// What is made of a text at last by its blocks and inlines that declare a name several times, of which the report hears.
+fn divided<'t>(
     alloc: Global,
     text: &'t [u8],
     report: Report<'t>,
     called: Called<'_>,
 ) -> Result<Made, AllocError>
-    ensures { IfOk result (λ m. IsDivided (stepped (laws.exchanged text.now)) m.text.items) }
+    ensures { IfOk result (λ m. IsDivided text.now m.text.items) }
 {
     let mut report = report;
-    let exchanged = exchanged(alloc, text, &mut report)?;
-    let text = divided(alloc, exchanged, &mut report)?;
+    let tokens = stretches(alloc, text)?;
+    let names = candidates(alloc, &tokens)?;
+    tell_loops(alloc, &tokens, &mut report)?;
+    drop(tokens);
+    let mut copy = Vec::new(alloc);
+    copy.extend_from_slice(text)?;
+    let DividedText { text, names } = divide_names(alloc, &names, copy)?;
+    for candidate in &names {
+        report.add(What::Divided, candidate.name, candidate.line);
+    }
     let (said, is_left) = report.end(called);
     Ok(Made {
         text,
@@ -164,10 +174,25 @@ fn made_of_separated<'t>(
     })
 }
 
+// What is made of a text with its separators and its sizes, of which the report has heard.
+fn made_of_separated<'t>(
+    alloc: Global,
+    text: &'t [u8],
+    report: Report<'t>,
+    called: Called<'_>,
+) -> Result<Made, AllocError>
+    ensures { IfOk result (λ m. IsDivided (recorded (stepped (laws.exchanged text.now))) m.text.items) }
+{
+    let mut report = report;
+    let exchanged = exchanged(alloc, text, &mut report)?;
+    let recorded = with_records(alloc, exchanged, &mut report)?;
+    divided(alloc, &recorded, report, called)
+}
+
 // What is made of a text whose lists have their commas.
 fn made_of(alloc: Global, text: &[u8], called: Called<'_>) -> Result<Made, AllocError>
     requires { length text.now ≤ MOST_BYTES }
-    ensures made { IfOk result (λ m. IsDivided (stepped (rewritten text.now)) m.text.items) }
+    ensures made { IfOk result (λ m. IsDivided (recorded (stepped (rewritten text.now))) m.text.items) }
     ensures told { IfOk result (λ m. TellsTokens m.is_left text.now) }
 {
     let lines = numbered(alloc, text)?;
@@ -190,7 +215,7 @@ fn made_of(alloc: Global, text: &[u8], called: Called<'_>) -> Result<Made, Alloc
 // What is made of a text, with commas between the names of each `mtype`.
 fn made_with_commas(alloc: Global, text: &[u8], called: Called<'_>) -> Result<Made, AllocError>
     requires { length text.now ≤ MOST_BYTES }
-    ensures made { IfOk result (λ m. IsDivided (stepped (rewritten (punctuated text.now))) m.text.items) }
+    ensures made { IfOk result (λ m. IsDivided (recorded (stepped (rewritten (punctuated text.now)))) m.text.items) }
     ensures told { IfOk result (λ m. TellsTokens m.is_left (punctuated text.now)) }
 {
     let punctuated = with_commas(alloc, text)?;

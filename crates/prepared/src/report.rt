@@ -32,6 +32,8 @@ pub struct Report<'t> {
     block: Option<Block<'t>>,
     kinds: Kinds<'t>,
     is_left: bool,
+    // whether loops are left that may be over messages
+    has_loops: bool,
 }
 
 fn feeds(text: &[u8]) -> u64
@@ -63,6 +65,7 @@ impl<'t> Report<'t> {
             block: None,
             kinds: Kinds::new(alloc),
             is_left: false,
+            has_loops: false,
         }
     }
 
@@ -131,15 +134,29 @@ impl<'t> Report<'t> {
         let token = exchange.token();
         match exchange.change() {
             Change::Blanked => self.kinds.add(What::Subtypes, token, self.line, self.line),
-            Change::Left => self.left(
+            Change::Left => {
                 if token == b":".as_slice() {
-                    What::Subtype
+                    self.left(What::Subtype, token);
                 } else {
-                    What::Loop
-                },
-                token,
-            ),
+                    self.has_loops = true;
+                }
+            }
             Change::Kept | Change::Colon | Change::Range(_) => {}
+        }
+        self.line = self.line.saturating_add(feeds(token));
+    }
+
+    /// Whether loops are left by what was read.
+    pub fn has_loops(&self) -> bool {
+        self.has_loops
+    }
+
+    /// Reads one token more, of a text in which the loops over messages are made: the other ones are left.
+    pub fn left_loop(&mut self, exchange: &Exchange<'t>) {
+        self.line = self.line.saturating_add(feeds(exchange.gap()));
+        let token = exchange.token();
+        if matches!(exchange.change(), Change::Left) && token != b":".as_slice() {
+            self.left(What::Loop, token);
         }
         self.line = self.line.saturating_add(feeds(token));
     }
