@@ -4,7 +4,8 @@ use Rattle.std.proofs.lemmas.List.{drop_all}
 use Rattle.pml_flow.specs.declared.edge.Edge.{Edge}
 use Rattle.promela_run.specs.declared.moves.Pick.{Pick}
 use Rattle.promela_run.specs.State.{State}
-use Rattle.promela_run.specs.Moves.{Message, last, pick, moves_on, moves_at, pairs_on, pairs_with}
+use Rattle.promela_run.specs.declared.moves.Move.TheVariants.{Death}
+use Rattle.promela_run.specs.Moves.{Message, last, only_if, pick, moves_on, moves_at, pairs_on, pairs_with}
 use Rattle.common_offers.specs.Offers.{IsCommonOffer, AreCommonOffers}
 use Rattle.common_offers.proofs.Silent.{all_are_silent, all_are_deaf}
 use Rattle.run_state.specs.declared.seat.Seat.{Seat}
@@ -12,8 +13,8 @@ use Rattle.run_state.specs.declared.body.Body.{Body}
 use Rattle.run_state.specs.Standing.{stand_of, StandsIn, shows, edges_at, seq_of}
 use Rattle.run_search.specs.Together.{IsCommonSeat}
 use Rattle.run_state.proofs.Finding.{opens_at, held}
-use Rattle.run_search.proofs.Placing.{moves_in, pairs_in}
-use Rattle.run_search.proofs.Waiting.{demands_in}
+use Rattle.run_search.proofs.Placing.{moves_in, moves_closed, pairs_in}
+use Rattle.run_search.proofs.Waiting.{demands_in, demands_closed}
 
 not_next : (p : ℕ) → nat_eq p (p + 1) ≡ false
 not_next p = grind arith
@@ -21,7 +22,7 @@ not_next p = grind arith
 -- where its one level is such
 pub common_seat : (s : State) (x : Seat) (b : Body) (es : List Edge) → StandsIn s x b → edges_at b x.node ≡ es ∷ [] → AreCommonOffers (map (shows b) es) → IsCommonSeat s x
 common_seat s x b es h one common = record {
-  moves = λ t p m none. level t m ∙ all_are_silent s p m t (seq_of b) 0 (map (shows b) es) common (sym (level t p) ∙ none);
+  moves = λ t p m older none. level t m ∙ all_are_silent s p m t (seq_of b) 0 (map (shows b) es) common (sym (level t p) ∙ none);
   demands = λ t p j w known. demands_in x b s t j w es h one (λ k m l d.
       all_are_deaf s t (pick (p + 1) 0 0) k m p j 0 l (map (shows b) es) common
       (sym (heard t (pick (p + 1) 0 0) m p (not_next p)) ∙ known (pick (p + 1) 0 0) m d));
@@ -32,6 +33,16 @@ common_seat s x b es h one common = record {
 
     heard : (t : Bool) (k : Pick) (m : Message) (p : ℕ) → nat_eq p k.process ≡ false → pairs_with s t k m p (stand_of s.program x) ≡ pairs_on s t k m p 0 (map (shows b) es)
     heard t k m p n = pairs_in x b s t k m p n h ∙ ap (λ (ls : List (List Edge)). last (pairs_on s t k m p) 0 (map (map (shows b)) ls)) one
+
+-- at a closing brace the youngest alone dies, and nobody receives anything
+pub closed_seat : (s : State) (x : Seat) → (stand_of s.program x).control ≡ [] → IsCommonSeat s x
+closed_seat s x e = record {
+  moves = λ t p m older none. moves_closed s m t (stand_of s.program x) e ∙ ap (λ (b : Bool). only_if b (Death m)) (not_youngest m (length s.stands) older);
+  demands = λ t p j w known. demands_closed s t j (stand_of s.program x) w e;
+}
+  where
+    not_youngest : (m n : ℕ) → m + 1 < n → nat_eq (m + 1) n ≡ false
+    not_youngest m n l = grind arith
 
 -- ---- a level, edge by edge
 

@@ -28,13 +28,14 @@ fn is_common_level(body: &Body<'_, '_, '_>, edges: &[Edge]) -> bool
     true
 }
 
-/// Whether of the processes that stand there one can be asked for all. It may say no where that is so.
-#[tactic(auto, using(crate::proofs::Together::common_seat))]
+/// Whether of the processes that stand there one can be asked for all, as at a closing brace. It may say no where that is so.
+#[inline(never)]
+#[tactic(auto, using(crate::proofs::Together::common_seat, crate::proofs::Together::closed_seat))]
 fn is_common_seat(live: &Live<'_, '_>, seat: Seat) -> bool
     ensures { result ≡ true → IsCommonSeat live.now.state seat }
 {
     let Some(body) = live.standing(seat) else {
-        return false;
+        return true;
     };
     match body.graph.only_level(seat.node) {
         Some(edges) => is_common_level(&body, edges),
@@ -43,6 +44,7 @@ fn is_common_seat(live: &Live<'_, '_>, seat: Seat) -> bool
 }
 
 /// Whether two processes stand at one place of one proctype.
+#[inline(always)]
 fn is_same(one: Seat, other: Seat) -> bool
     ensures { result ≡ true → one ≡ other }
 {
@@ -50,6 +52,7 @@ fn is_same(one: Seat, other: Seat) -> bool
 }
 
 /// Whether it was this seat that was asked last.
+#[inline(always)]
 fn was_asked(asked: Option<Seat>, seat: Seat) -> bool
     ensures { result ≡ true → asked ≡ Some seat }
 {
@@ -60,6 +63,7 @@ fn was_asked(asked: Option<Seat>, seat: Seat) -> bool
 }
 
 /// Whether the process with this number stands there.
+#[inline(always)]
 fn stands_there(seats: &[Seat], process: usize, seat: Seat) -> bool {
     match seats.get(process) {
         Some(own) => is_same(*own, seat),
@@ -67,8 +71,7 @@ fn stands_there(seats: &[Seat], process: usize, seat: Seat) -> bool {
     }
 }
 
-/// The last seat that was asked in a round, and whether no process has a move there.
-#[derive(Clone, Copy)]
+/// The last seat that was asked in a round, and whether no process has a move there but, maybe, the youngest.
 pub(crate) struct Silence {
     pub asked: Option<Seat>,
     pub is_silent: bool,
@@ -76,6 +79,7 @@ pub(crate) struct Silence {
 
 impl Silence {
     /// Nothing is known.
+    #[inline(always)]
     pub(crate) fn unknown() -> Silence
         ensures { result.is_silent ≡ false }
     {
@@ -85,33 +89,33 @@ impl Silence {
         }
     }
 
-    /// Whether it is known that no process has a move there.
-    pub(crate) fn is_at(self, round: &Round<'_, '_, '_>, seat: Seat) -> bool
-        requires { IsSilence round.now self }
-        ensures { result ≡ true → (m : ℕ) → round_at round.now m seat ≡ [] }
+    /// Whether it is known that the process has no move there. Of the youngest nothing is: it may die there.
+    #[inline(always)]
+    pub(crate) fn is_at(&self, round: &Round<'_, '_, '_>, process: usize, seat: Seat) -> bool
+        requires there { process < length round.now.live.now.state.stands }
+        requires known { IsSilence round.now self.now }
+        ensures { result ≡ true → round_at round.now process seat ≡ [] }
     {
-        self.is_silent && was_asked(self.asked, seat)
+        self.is_silent && was_asked(self.asked, seat) && process + 1 < round.live.process_count()
     }
 
-    /// What is known behind a process that has no move where it stands. It is asked for all only where the next stands there too.
-    pub(crate) fn after(self, round: &Round<'_, '_, '_>, process: usize, seat: Seat) -> Silence
+    /// Heeds that a process has no move where it stands. The seat is asked for all only where the next stands there too.
+    #[inline(always)]
+    pub(crate) fn heed(&mut self, round: &Round<'_, '_, '_>, process: usize, seat: Seat)
         requires there { process < length round.now.live.now.state.stands }
-        requires known { IsSilence round.now self }
+        requires known { IsSilence round.now self.old }
         requires none { round_at round.now process seat ≡ [] }
-        ensures { IsSilence round.now result }
+        ensures { IsSilence round.now self.new }
     {
         if was_asked(self.asked, seat) || !stands_there(round.live.seats(), process + 1, seat) {
-            return self;
+            return;
         }
-        Silence {
-            asked: Some(seat),
-            is_silent: is_common_seat(round.live, seat),
-        }
+        self.asked = Some(seat);
+        self.is_silent = is_common_seat(round.live, seat);
     }
 }
 
 /// The last seat that was asked what its process waits for, whether each who stands there waits for that, and what it is.
-#[derive(Clone, Copy)]
 pub(crate) struct Waiting {
     pub asked: Option<Seat>,
     pub is_common: bool,
@@ -120,6 +124,7 @@ pub(crate) struct Waiting {
 
 impl Waiting {
     /// Nothing is known.
+    #[inline(always)]
     pub(crate) fn unknown() -> Waiting
         ensures { result.is_common ≡ false }
     {
@@ -131,8 +136,9 @@ impl Waiting {
     }
 
     /// What each process waits for that stands there, where it is known.
-    pub(crate) fn at(self, live: &Live<'_, '_>, timeout: bool, seat: Seat) -> Option<Demand>
-        requires { IsWaiting live.now.state timeout self }
+    #[inline(always)]
+    pub(crate) fn at(&self, live: &Live<'_, '_>, timeout: bool, seat: Seat) -> Option<Demand>
+        requires { IsWaiting live.now.state timeout self.now }
         ensures { IfSome result (λ w. (j : ℕ) → DemandsFor live.now.state timeout j (stand_of live.now.state.program seat) w) }
     {
         if self.is_common && was_asked(self.asked, seat) {
@@ -141,27 +147,26 @@ impl Waiting {
         None
     }
 
-    /// What is known behind a process that waits so where it stands. It is asked for all only where the next stands there too.
-    pub(crate) fn after(
-        self,
+    /// Heeds what a process waits for where it stands. The seat is asked for all only where the next stands there too.
+    #[inline(always)]
+    pub(crate) fn heed(
+        &mut self,
         live: &Live<'_, '_>,
         timeout: bool,
         process: usize,
         seat: Seat,
         demand: Demand,
-    ) -> Waiting
+    )
         requires there { process < length live.now.state.stands }
-        requires known { IsWaiting live.now.state timeout self }
+        requires known { IsWaiting live.now.state timeout self.old }
         requires demand { DemandsFor live.now.state timeout process (stand_of live.now.state.program seat) demand }
-        ensures { IsWaiting live.now.state timeout result }
+        ensures { IsWaiting live.now.state timeout self.new }
     {
         if was_asked(self.asked, seat) || !stands_there(live.seats(), process + 1, seat) {
-            return self;
+            return;
         }
-        Waiting {
-            asked: Some(seat),
-            is_common: is_common_seat(live, seat),
-            demand,
-        }
+        self.asked = Some(seat);
+        self.is_common = is_common_seat(live, seat);
+        self.demand = demand;
     }
 }

@@ -206,15 +206,16 @@ fn demand_of(live: &Live<'_, '_>, j: usize, timeout: bool, seat: Seat) -> Demand
 }
 
 /// What a process may receive, where it may be known of all who stand there.
+#[inline(always)]
 fn demand_known(
     live: &Live<'_, '_>,
     j: usize,
     timeout: bool,
     seat: Seat,
-    waiting: Waiting,
+    waiting: &Waiting,
 ) -> Demand
     requires there { j < length live.now.state.stands }
-    requires known { IsWaiting live.now.state timeout waiting }
+    requires known { IsWaiting live.now.state timeout waiting.now }
     ensures { DemandsFor live.now.state timeout j (stand_of live.now.state.program seat) result }
 {
     match waiting.at(live, timeout, seat) {
@@ -236,8 +237,8 @@ pub(crate) fn all_demands(
     let mut demands = Vec::with_capacity(alloc, seats.len())?;
     let mut waiting = Waiting::unknown();
     for j in 0..seats.len() {
-        let demand = demand_known(live, j, timeout, seats[j], waiting);
-        waiting = waiting.after(live, timeout, j, seats[j], demand);
+        let demand = demand_known(live, j, timeout, seats[j], &waiting);
+        waiting.heed(live, timeout, j, seats[j], demand);
         demands.push(demand)?;
     }
     Ok(demands)

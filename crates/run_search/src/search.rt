@@ -3,7 +3,7 @@
 
 #![tactic(auto, using(crate::proofs::Keeping::kept_on, crate::proofs::Keeping::kept_same, crate::proofs::Keeping::kept_push))]
 
-ghost use Rattle.std.specs.Prelude.{◌≡◌, ◌++◌, ◌-◌, ◌<◌, ◌≤◌, true, false, [], IfOk, OnOk, length, take};
+ghost use Rattle.std.specs.Prelude.{◌≡◌, ◌++◌, ◌-◌, ◌<◌, ◌≤◌, true, false, [], OnOk, length, take};
 ghost use Rattle.run_search.specs.Kept.{Extends};
 ghost use Rattle.run_state.specs.Standing.{IsBody};
 ghost use Rattle.promela_run.specs.Moves.{moves_held, moves as all_moves};
@@ -42,30 +42,31 @@ fn add_moves_of_all(round: &Round<'_, '_, '_>, moves: &mut Vec<Move>) -> Result<
     Ok(())
 }
 
-/// Adds the moves of a process, none where it is known that nobody has any where it stands; and what is known then.
+/// Adds the moves of a process, at once where it is known that it has none there, and heeds it where it has none.
+#[inline(always)]
 fn add_moves_heeding(
     round: &Round<'_, '_, '_>,
     process: usize,
     seat: Seat,
-    silence: Silence,
+    silence: &mut Silence,
     moves: &mut Vec<Move>,
-) -> Result<Silence, AllocError>
+) -> Result<(), AllocError>
     requires known { IsKnown round.now }
     requires there { process < length round.now.live.now.state.stands }
-    requires silence { IsSilence round.now silence }
+    requires silence { IsSilence round.now silence.old }
     ensures added { OnOk result (moves.new.items ≡ moves.old.items ++ round_at round.now process seat) }
     ensures kept { Extends moves.new.items moves.old.items }
-    ensures silence { IfOk result (λ z. IsSilence round.now z) }
+    ensures silence { IsSilence round.now silence.new }
 {
-    if silence.is_at(round, seat) {
-        return Ok(silence);
+    if silence.is_at(round, process, seat) {
+        return Ok(());
     }
     let before = moves.len();
     add_moves_at(round, process, seat, moves)?;
-    if moves.len() != before {
-        return Ok(silence);
+    if moves.len() == before {
+        silence.heed(round, process, seat);
     }
-    Ok(silence.after(round, process, seat))
+    Ok(())
 }
 
 /// Adds the moves of all processes, where many live: of those who stand at one seat and have no moves there one is asked, if it may
@@ -79,7 +80,7 @@ fn add_moves_of_many(round: &Round<'_, '_, '_>, moves: &mut Vec<Move>) -> Result
     let seats = round.live.seats();
     let mut silence = Silence::unknown();
     for process in 0..seats.len() {
-        silence = add_moves_heeding(round, process, seats[process], silence, moves)?;
+        add_moves_heeding(round, process, seats[process], &mut silence, moves)?;
     }
     Ok(())
 }

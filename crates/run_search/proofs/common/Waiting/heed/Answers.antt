@@ -2,7 +2,7 @@ use Rattle.std.proofs.Common.{◌≡◌, subst}
 use Rattle.run_state.specs.declared.seat.Seat.{Seat}
 use Rattle.run_state.specs.Standing.{stand_of}
 use Rattle.run_search.specs.Demands.{DemandsFor}
-use Rattle.run_search.proofs.common.Waiting.after.Goals as goal
+use Rattle.run_search.proofs.common.Waiting.heed.Goals as goal
 
 pub returns : goal.returns
 returns c = λ x common same j.
