@@ -39,7 +39,7 @@ only_nil false c x y k e = ap (λ d. only_if d y) (sym k)
 
 -- ---- what two processes read in one state
 
-alike : (s : State) (p m : ℕ) (t : Bool) → AreAlike (reads s p t) (reads s m t)
+pub alike : (s : State) (p m : ℕ) (t : Bool) → AreAlike (reads s p t) (reads s m t)
 alike s p m t = record { frame = refl; cells = λ f v. refl; holds = λ at. refl; process_count = refl; timeout = refl; channel = λ n. refl }
 
 -- ---- a level

@@ -7,6 +7,7 @@ pub mod Sends
 pub mod Placing
 pub mod Waiting
 pub mod Listening
+pub mod Interests
 pub mod Keeping
 pub mod Samples
 pub mod Rows

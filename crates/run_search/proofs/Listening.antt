@@ -1,5 +1,5 @@
 -- Between which processes those lie that may receive on a channel.
-use Rattle.std.proofs.Common.{◌≡◌, ◌⊎◌, inl, inr, ℕ, zero, suc, ◌+◌, ◌<◌, ◌≤◌, Bool, true, false, if◌then◌else◌, nat_lt, ◌&&◌, List, [], ◌∷◌, ◌++◌, ℤ, length, map, drop, refl, sym, ap, ◌∙◌, subst, arith, Option, Some, None}
+use Rattle.std.proofs.Common.{◌≡◌, ◌⊎◌, inl, inr, ℕ, zero, suc, ◌+◌, ◌<◌, ◌≤◌, Bool, true, false, if◌then◌else◌, nat_lt, ◌&&◌, ◌||◌, List, [], ◌∷◌, ◌++◌, ℤ, length, map, drop, refl, sym, ap, ◌∙◌, subst, arith, Option, Some, None}
 use Rattle.std.specs.Prelude.{slice_get, slice_set, slice_index_or}
 use Rattle.std.specs.Ordering.{int_eq}
 use Rattle.std.proofs.lemmas.Int.{ints}
@@ -10,12 +10,13 @@ use Rattle.promela_run.specs.declared.moves.Pick.{Pick}
 use Rattle.promela_run.specs.declared.moves.Move.{Move}
 use Rattle.run_state.specs.declared.seat.Seat.{Seat}
 use Rattle.run_search.specs.declared.demands.Demand.{Demand}
-use Rattle.run_search.specs.declared.demands.Demand.TheVariants.{Nothing, Channel, Number, Anything}
+use Rattle.run_search.specs.declared.demands.Demand.TheVariants.{Nothing, One, Two, Anything}
 use Rattle.run_search.specs.declared.listeners.Span.{Span}
 use Rattle.run_search.specs.declared.listeners.Known.{Known}
 use Rattle.promela_run.specs.State.{State, Stand}
 use Rattle.promela_run.specs.Moves.{Message, each, pairs, pairs_with}
-use Rattle.run_search.specs.Demands.{may_take, begins_with, AreDemands}
+use Rattle.run_search.specs.declared.interest.Interest.{Interest}
+use Rattle.run_search.specs.Demands.{may_take, asks, begins_so, AreDemands}
 use Rattle.run_search.specs.Listeners.{place_of, with_one, joined, widened, spans_with, any_with, LiesIn, Hears, AreHeard, AreKnown}
 use Rattle.run_state.specs.Standing.{stand_of}
 use Rattle.run_state.proofs.Placing.{seat_stands}
@@ -105,14 +106,24 @@ first_true false b e = cc
 
 kept_on : (xs : List Span) (any : Span) (w : Demand) (j at i : ℕ) → Hears (slice_get xs at) any i → Hears (slice_get (spans_with xs w j) at) (any_with any w j) i
 kept_on xs any Nothing j at i h = h
-kept_on xs any (Channel n) j at i h = still_heard xs any (place_of n) j at i h
-kept_on xs any (Number n x) j at i h = still_heard xs any (place_of n) j at i h
+kept_on xs any (One x) j at i h = still_heard xs any (place_of x.number) j at i h
+kept_on xs any (Two x y) j at i h = still_heard (widened xs (place_of x.number) j) any (place_of y.number) j at i (still_heard xs any (place_of x.number) j at i h)
 kept_on xs any Anything j at i h = still_any (slice_get xs at) any j i h
+
+-- a message that is asked for is heard where its channel's span is widened
+asked_here : (xs : List Span) (any : Span) (x : Interest) (j : ℕ) (m : Message) → asks x m ≡ true → Hears (slice_get (widened xs (place_of x.number) j) (place_of m.number)) any j
+asked_here xs any x j m e =
+    subst (λ (a : ℤ). Hears (slice_get (widened xs (place_of x.number) j) (place_of a)) any j) (equal x.number m.number (first_true (int_eq x.number m.number) (begins_so x.first m.fields) e))
+    (now_heard xs any (place_of x.number) j)
 
 here : (xs : List Span) (any : Span) (w : Demand) (j : ℕ) (m : Message) → may_take w m ≡ true → Hears (slice_get (spans_with xs w j) (place_of m.number)) (any_with any w j) j
 here xs any Nothing j m e = cc
-here xs any (Channel n) j m e = subst (λ (a : ℤ). Hears (slice_get (widened xs (place_of n) j) (place_of a)) any j) (equal n m.number e) (now_heard xs any (place_of n) j)
-here xs any (Number n x) j m e = subst (λ (a : ℤ). Hears (slice_get (widened xs (place_of n) j) (place_of a)) any j) (equal n m.number (first_true (int_eq n m.number) (begins_with x m.fields) e)) (now_heard xs any (place_of n) j)
+here xs any (One x) j m e = asked_here xs any x j m e
+here xs any (Two x y) j m e = by (asks x m) refl
+  where
+    by : (b : Bool) → asks x m ≡ b → Hears (slice_get (widened (widened xs (place_of x.number) j) (place_of y.number) j) (place_of m.number)) any j
+    by true i = still_heard (widened xs (place_of x.number) j) any (place_of y.number) j (place_of m.number) j (asked_here xs any x j m i)
+    by false i = asked_here (widened xs (place_of x.number) j) any y j m (sym (ap (λ (b : Bool). b || asks y m) i) ∙ e)
 here xs any Anything j m e = now_any (slice_get xs (place_of m.number)) any j
 
 pub heard_one : (ws : List Demand) (xs : List Span) (any : Span) (w : Demand) (j : ℕ) → slice_get ws j ≡ Some w → AreHeard ws xs any j → AreHeard ws (spans_with xs w j) (any_with any w j) (j + 1)

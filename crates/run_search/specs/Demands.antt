@@ -1,11 +1,12 @@
 -- What a process waits for, and which messages it may receive so.
-use Rattle.std.specs.Prelude.{◌≡◌, ℕ, Bool, true, false, ◌&&◌, List, [], ◌∷◌, ℤ, Option, Some, None, slice_get}
+use Rattle.std.specs.Prelude.{◌≡◌, ℕ, Bool, true, false, ◌&&◌, ◌||◌, List, [], ◌∷◌, ℤ, Option, Some, None, slice_get}
 use Rattle.std.specs.Ordering.{int_eq}
 use Rattle.pml_program.specs.declared.program.Basic.{Basic}
 use Rattle.promela_process.specs.Offers.{Offer}
 use Rattle.promela_run.specs.declared.moves.Pick.{Pick}
 use Rattle.run_search.specs.declared.demands.Demand.{Demand}
-use Rattle.run_search.specs.declared.demands.Demand.TheVariants.{Nothing, Channel, Number, Anything}
+use Rattle.run_search.specs.declared.demands.Demand.TheVariants.{Nothing, One, Two, Anything}
+use Rattle.run_search.specs.declared.interest.Interest.{Interest}
 use Rattle.promela_run.specs.State.{Stand, State, reads}
 use Rattle.promela_run.specs.Moves.{Message, accepts, last, pairs_on, pairs_with}
 
@@ -13,11 +14,20 @@ abbrev pub begins_with : ℤ → List ℤ → Bool
 begins_with n [] = false
 begins_with n (x ∷ xs) = int_eq n x
 
+-- whatever it begins with, where no number is asked for
+abbrev pub begins_so : Option ℤ → List ℤ → Bool
+begins_so None xs = true
+begins_so (Some n) xs = begins_with n xs
+
+-- whether a receive that asks so may take a message
+abbrev pub asks : Interest → Message → Bool
+asks x m = int_eq x.number m.number && begins_so x.first m.fields
+
 -- whether what waits so may take a message
 abbrev pub may_take : Demand → Message → Bool
 may_take Nothing m = false
-may_take (Channel n) m = int_eq n m.number
-may_take (Number n x) m = int_eq n m.number && begins_with x m.fields
+may_take (One x) m = asks x m
+may_take (Two x y) m = asks x m || asks y m
 may_take Anything m = true
 
 -- where nothing is known it may

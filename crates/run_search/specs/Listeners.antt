@@ -2,7 +2,7 @@
 use Rattle.std.specs.Prelude.{◌≡◌, ℕ, zero, suc, ◌<◌, ◌≤◌, ◌⊎◌, Bool, true, if◌then◌else◌, nat_lt, List, [], length, ℤ, pos, negsuc, Option, Some, None, slice_get, slice_set, slice_index_or}
 use Rattle.promela_run.specs.declared.moves.Pick.{Pick}
 use Rattle.run_search.specs.declared.demands.Demand.{Demand}
-use Rattle.run_search.specs.declared.demands.Demand.TheVariants.{Nothing, Channel, Number, Anything}
+use Rattle.run_search.specs.declared.demands.Demand.TheVariants.{Nothing, One, Two, Anything}
 use Rattle.run_search.specs.declared.listeners.Span.{Span}
 use Rattle.run_search.specs.declared.listeners.Known.{Known}
 use Rattle.promela_run.specs.State.{Stand, State}
@@ -24,17 +24,17 @@ joined x y = record { first = if nat_lt y.first x.first then y.first else x.firs
 abbrev pub widened : List Span → ℕ → ℕ → List Span
 widened xs k j = if nat_lt k (length xs) then slice_set xs k (with_one (slice_index_or xs k (record { first = 0; last = 0 })) j) else xs
 
--- one that waits so is among those of its channel, or among those that may receive anything
+-- one that waits so is among those of its channels, or among those that may receive anything
 abbrev pub spans_with : List Span → Demand → ℕ → List Span
 spans_with xs Nothing j = xs
-spans_with xs (Channel n) j = widened xs (place_of n) j
-spans_with xs (Number n x) j = widened xs (place_of n) j
+spans_with xs (One x) j = widened xs (place_of x.number) j
+spans_with xs (Two x y) j = widened (widened xs (place_of x.number) j) (place_of y.number) j
 spans_with xs Anything j = xs
 
 abbrev pub any_with : Span → Demand → ℕ → Span
 any_with x Nothing j = x
-any_with x (Channel n) j = x
-any_with x (Number n y) j = x
+any_with x (One y) j = x
+any_with x (Two y z) j = x
 any_with x Anything j = with_one x j
 
 abbrev pub LiesIn : Span → ℕ → Type 0

@@ -1,21 +1,19 @@
 //! What processes wait for: a send then asks those alone that may receive its message.
 
-ghost use Rattle.std.specs.Prelude.{◌≡◌, ◌<◌, ◌&&◌, false, IfOk, length, map, slice_get};
+ghost use Rattle.std.specs.Prelude.{◌≡◌, ◌<◌, false, IfOk, length, map, slice_get};
 ghost use Rattle.std.specs.Option.{option_copied};
-ghost use Rattle.std.specs.Ordering.{int_eq};
-ghost use Rattle.promela_process.specs.Expressions.{Reading, asked_by};
 ghost use Rattle.pml_value.specs.Seen.{seen};
 ghost use Rattle.run_state.specs.Standing.{stand_of, IsBody, shows, offers_at};
-ghost use Rattle.promela_run.specs.Moves.{Message as Sent, accepts, does_match};
+ghost use Rattle.promela_run.specs.Moves.{Message as Sent, accepts};
 ghost use Rattle.run_search.specs.Together.{IsWaiting};
-ghost use Rattle.run_search.specs.Demands.{begins_with, may_take, may_at, does_accept, DemandsOn, DemandsDown, DemandsFor, AreDemands};
+ghost use Rattle.run_search.specs.Demands.{asks, may_take, may_at, does_accept, DemandsOn, DemandsDown, DemandsFor, AreDemands};
 
 use crate::common::Waiting;
 use crate::executable::named;
+use crate::interest::Interest;
 use crate::lent::lent;
 use crate::message::{Message, is_receive};
 use pml_flow::edge::Edge;
-use pml_program::expr::Want;
 use pml_program::program::{Action, Basic};
 use pml_value::view::View;
 use promela_run::live_channel::LiveChannel;
@@ -27,51 +25,58 @@ use std::alloc::{AllocError, Global};
 /// As many processes are enough to look beforehand what each waits for.
 pub(crate) const ENOUGH_PROCESSES: usize = 8;
 
-/// What a process may receive, so far as it is said beforehand: nothing; what is sent on the channel with this number; of that only
-/// what begins with this number; or anything.
+/// What a process may receive, so far as it is said beforehand: nothing; what one or two receives ask for; or anything.
 #[derive(Clone, Copy)]
 pub enum Demand {
     Nothing,
-    Channel(i32),
-    Number(i32, i32),
+    One(Interest),
+    Two(Interest, Interest),
     Anything,
 }
 
+/// What one receive asks for, or another.
+fn either(own: Interest, more: Interest) -> Demand
+    ensures one { (m : Sent) → may_take result m ≡ false → asks own m ≡ false }
+    ensures other { (m : Sent) → may_take result m ≡ false → asks more m ≡ false }
+{
+    if own.covers(more) {
+        return Demand::One(own);
+    }
+    Demand::Two(own, more)
+}
+
+/// What two receives ask for, or a third: all messages of a channel on which two of them wait.
+fn any_of(one: Interest, two: Interest, more: Interest) -> Demand
+    ensures one { (m : Sent) → may_take result m ≡ false → asks one m ≡ false }
+    ensures two { (m : Sent) → may_take result m ≡ false → asks two m ≡ false }
+    ensures other { (m : Sent) → may_take result m ≡ false → asks more m ≡ false }
+{
+    if one.covers(more) || two.covers(more) {
+        return Demand::Two(one, two);
+    }
+    if one.number == more.number {
+        return Demand::Two(one.widened(), two);
+    }
+    if two.number == more.number {
+        return Demand::Two(one, two.widened());
+    }
+    if one.number == two.number {
+        return Demand::Two(one.widened(), more);
+    }
+    Demand::Anything
+}
+
 impl Demand {
-    /// What may be received so, or on the channel with this number.
-    fn or_channel(self, number: i32) -> Demand
+    /// What may be received so, or by a receive that asks for this.
+    fn or_asked(self, more: Interest) -> Demand
         ensures one { (m : Sent) → may_take result m ≡ false → may_take self m ≡ false }
-        ensures other { (m : Sent) → may_take result m ≡ false → int_eq number m.number ≡ false }
+        ensures other { (m : Sent) → may_take result m ≡ false → asks more m ≡ false }
     {
         match self {
-            Demand::Nothing => Demand::Channel(number),
-            Demand::Channel(own) if own == number => self,
-            Demand::Number(own, _) if own == number => Demand::Channel(number),
-            _ => Demand::Anything,
-        }
-    }
-
-    /// What may be received so, or begins with this number on the channel with that.
-    fn or_number(self, number: i32, first: i32) -> Demand
-        ensures one { (m : Sent) → may_take result m ≡ false → may_take self m ≡ false }
-        ensures other { (m : Sent) → may_take result m ≡ false → (int_eq number m.number && begins_with first m.fields) ≡ false }
-    {
-        match self {
-            Demand::Nothing => Demand::Number(number, first),
-            Demand::Number(own, one) if own == number && one == first => self,
-            _ => self.or_channel(number),
-        }
-    }
-
-    /// What may be received so, or by a receive from the channel with this number.
-    fn or_from(self, number: i32, arguments: &[Want]) -> Demand
-        ensures one { (m : Sent) → may_take result m ≡ false → may_take self m ≡ false }
-        ensures other { (m : Sent) (r : Reading) → may_take result m ≡ false →
-            (int_eq number m.number && does_match (asked_by arguments.now r) m.fields) ≡ false }
-    {
-        match arguments {
-            [Want::Exactly(first)] => self.or_number(number, *first),
-            _ => self.or_channel(number),
+            Demand::Nothing => Demand::One(more),
+            Demand::One(own) => either(own, more),
+            Demand::Two(one, two) => any_of(one, two, more),
+            Demand::Anything => Demand::Anything,
         }
     }
 
@@ -84,7 +89,9 @@ impl Demand {
             return self;
         };
         match named(view, target, arguments.len()) {
-            Ok((number, _)) => self.or_from(number, arguments.as_slice()),
+            Ok((number, _)) => {
+                self.or_asked(Interest::of_receive(view, number, arguments.as_slice()))
+            }
             Err(_) => self,
         }
     }
@@ -130,21 +137,11 @@ impl Demand {
     {
         match self {
             Demand::Nothing => false,
-            Demand::Channel(number) => number == message.number(),
-            Demand::Number(number, first) => number == message.number() && begins(message, first),
+            Demand::One(own) => own.is_for(message),
+            Demand::Two(one, two) => one.is_for(message) || two.is_for(message),
             Demand::Anything => true,
         }
     }
-}
-
-/// Whether a message begins with this number.
-fn begins(message: &Message<'_, '_>, number: i32) -> bool
-    ensures { result ≡ begins_with number message.now.fields }
-{
-    if message.len() == 0 {
-        return false;
-    }
-    number == message.field(0)
 }
 
 /// What may be received so far, or by the offers of a level.

@@ -7,6 +7,7 @@ pub mod d_step;
 pub mod demands;
 pub mod executable;
 pub mod foremost;
+pub mod interest;
 pub mod laws;
 pub mod lent;
 pub mod listeners;

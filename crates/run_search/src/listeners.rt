@@ -108,13 +108,16 @@ fn widen(spans: &mut Vec<Span>, number: i32, j: usize)
     }
 }
 
-/// With this one too, where it waits on a channel.
+/// With this one too, where it waits on a channel or on two.
 fn add_listener(spans: &mut Vec<Span>, demand: Demand, j: usize)
     ensures { spans.new.items ≡ spans_with spans.old.items demand j }
 {
     match demand {
-        Demand::Channel(number) => widen(spans, number, j),
-        Demand::Number(number, _) => widen(spans, number, j),
+        Demand::One(own) => widen(spans, own.number, j),
+        Demand::Two(own, other) => {
+            widen(spans, own.number, j);
+            widen(spans, other.number, j);
+        }
         _ => {}
     }
 }
