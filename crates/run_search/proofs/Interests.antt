@@ -22,7 +22,7 @@ pub exactly : (number n : ℤ) (m : Message) → (int_eq number m.number && begi
 exactly number n m e = one_field (int_eq number m.number) n m.fields e
 
 -- what a pattern of one expression asks, by its value
-pub asked_one : Result ℤ Fault → Result (List Sought) Fault
+abbrev pub asked_one : Result ℤ Fault → Result (List Sought) Fault
 asked_one v = (v >>= λ n. Ok (Exactly n)) >>= λ w. Ok (w ∷ [])
 
 left_false : (a : Bool) → (a && true) ≡ false → (b : Bool) → (a && b) ≡ false

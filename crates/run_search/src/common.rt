@@ -1,9 +1,10 @@
 //! Seats at which every process can take the same, so that of many who stand there one is asked.
 
-ghost use Rattle.std.specs.Prelude.{◌≡◌, ◌+◌, ◌<◌, true, false, IfSome, Some, ℕ, [], length, map};
-ghost use Rattle.common_offers.specs.Offers.{AreCommonOffers};
+ghost use Rattle.std.specs.Prelude.{◌≡◌, ◌+◌, ◌++◌, ◌<◌, ◌≤◌, true, false, IfSome, OnOk, Some, ℕ, List, length, map, take, drop};
+ghost use Rattle.common_offers.specs.Offers.{AreCommonOffers, by_process};
 ghost use Rattle.run_state.specs.Standing.{IsBody, shows, stand_of};
-ghost use Rattle.run_search.specs.Together.{IsCommonSeat, IsSilence, IsWaiting};
+ghost use Rattle.run_search.specs.Kept.{Extends};
+ghost use Rattle.run_search.specs.Together.{IsCommonSeat, IsAsked, shared_by, IsWaiting};
 ghost use Rattle.run_search.specs.Demands.{DemandsFor};
 ghost use Rattle.run_search.specs.Round.{round_at};
 
@@ -11,9 +12,11 @@ use crate::demands::Demand;
 use crate::round::Round;
 use common_offers::statement::is_common_offer;
 use pml_flow::edge::Edge;
+use promela_run::moves::{Move, Pick};
 use run_state::body::Body;
 use run_state::live::Live;
 use run_state::seat::Seat;
+use std::alloc::AllocError;
 
 /// Whether every process can take all offers of a level, or none can.
 fn is_common_level(body: &Body<'_, '_, '_>, edges: &[Edge]) -> bool
@@ -62,60 +65,116 @@ fn was_asked(asked: Option<Seat>, seat: Seat) -> bool
     }
 }
 
-/// Whether the process with this number stands there.
+/// Whether another process lives behind this one.
 #[inline(always)]
-fn stands_there(seats: &[Seat], process: usize, seat: Seat) -> bool {
-    match seats.get(process) {
-        Some(own) => is_same(*own, seat),
-        None => false,
-    }
+fn has_next(live: &Live<'_, '_>, process: usize) -> bool
+    requires { process < length live.now.state.stands }
+    ensures { result ≡ true → process + 1 < length live.now.state.stands }
+{
+    let count = live.process_count();
+    process + 1 < count
 }
 
-/// The last seat that was asked in a round, and whether no process has a move there but, maybe, the youngest.
-pub(crate) struct Silence {
-    pub asked: Option<Seat>,
-    pub is_silent: bool,
+/// Whether the process behind this one lives and stands there.
+#[inline(always)]
+fn is_next_there(live: &Live<'_, '_>, process: usize, seat: Seat) -> bool
+    requires { process < length live.now.state.stands }
+    ensures { result ≡ true → process + 1 < length live.now.state.stands }
+{
+    has_next(live, process) && is_same(live.seats()[process + 1], seat)
 }
 
-impl Silence {
+/// The last seat that was asked in a round, where its moves lie in the list, and whether each who stands there has the same but, maybe,
+/// the youngest.
+#[derive(Clone, Copy)]
+pub(crate) struct Asked {
+    pub seat: Option<Seat>,
+    pub is_common: bool,
+    pub first: usize,
+    pub end: usize,
+}
+
+impl Asked {
     /// Nothing is known.
     #[inline(always)]
-    pub(crate) fn unknown() -> Silence
-        ensures { result.is_silent ≡ false }
+    pub(crate) fn nobody() -> Asked
+        ensures common { result.is_common ≡ false }
+        ensures end { result.end ≡ 0 }
     {
-        Silence {
-            asked: None,
-            is_silent: false,
+        Asked {
+            seat: None,
+            is_common: false,
+            first: 0,
+            end: 0,
         }
     }
 
-    /// Whether it is known that the process has no move there. Of the youngest nothing is: it may die there.
+    /// Whether the process is known to have the same moves there. Of the youngest nothing is known: it may die there.
     #[inline(always)]
     pub(crate) fn is_at(&self, round: &Round<'_, '_, '_>, process: usize, seat: Seat) -> bool
-        requires there { process < length round.now.live.now.state.stands }
-        requires known { IsSilence round.now self.now }
-        ensures { result ≡ true → round_at round.now process seat ≡ [] }
+        requires { process < length round.now.live.now.state.stands }
+        ensures { result ≡ true → (ms : List Move) → IsAsked round.now self.now ms → round_at round.now process seat ≡ shared_by process self.now ms }
     {
-        self.is_silent && was_asked(self.asked, seat) && process + 1 < round.live.process_count()
+        self.is_common && was_asked(self.seat, seat) && has_next(round.live, process)
     }
 
-    /// Heeds that a process has no move where it stands. The seat is asked for all only where the next stands there too.
+    /// Heeds the moves of a process where it stands, which lie behind the first so many. The seat is asked for all only where the next
+    /// stands there too.
     #[inline(always)]
-    pub(crate) fn heed(&mut self, round: &Round<'_, '_, '_>, process: usize, seat: Seat)
+    pub(crate) fn heed(
+        &mut self,
+        round: &Round<'_, '_, '_>,
+        process: usize,
+        seat: Seat,
+        before: usize,
+        moves: &[Move],
+    )
         requires there { process < length round.now.live.now.state.stands }
-        requires known { IsSilence round.now self.old }
-        requires none { round_at round.now process seat ≡ [] }
-        ensures { IsSilence round.now self.new }
+        requires known { IsAsked round.now self.old moves.now }
+        requires moves { drop before moves.now ≡ round_at round.now process seat }
+        ensures { IsAsked round.now self.new moves.now }
     {
-        if was_asked(self.asked, seat) || !stands_there(round.live.seats(), process + 1, seat) {
+        if was_asked(self.seat, seat) || !is_next_there(round.live, process, seat) {
             return;
         }
-        self.asked = Some(seat);
-        self.is_silent = is_common_seat(round.live, seat);
+        self.seat = Some(seat);
+        self.is_common = is_common_seat(round.live, seat);
+        self.first = before;
+        self.end = moves.len();
     }
+}
+
+/// The same move by another process.
+#[inline(always)]
+fn copied(one: Move, process: usize) -> Move
+    ensures { result ≡ by_process process one }
+{
+    match one {
+        Move::Alone(offer, timeout) => Move::Alone(Pick { process, ..offer }, timeout),
+        _ => one,
+    }
+}
+
+/// Adds the moves from one place of the list on up to another, by another process.
+#[inline(always)]
+pub(crate) fn add_copies(
+    process: usize,
+    first: usize,
+    end: usize,
+    moves: &mut Vec<Move>,
+) -> Result<(), AllocError>
+    requires { end ≤ length moves.old.items }
+    ensures added { OnOk result (moves.new.items ≡ moves.old.items ++ map (by_process process) (drop first (take end moves.old.items))) }
+    ensures kept { Extends moves.new.items moves.old.items }
+{
+    for at in first..end {
+        moves.push(copied(moves[at], process))?;
+    }
+    Ok(())
 }
 
 /// The last seat that was asked what its process waits for, whether each who stands there waits for that, and what it is.
+#[derive(Clone, Copy)]
 pub(crate) struct Waiting {
     pub asked: Option<Seat>,
     pub is_common: bool,
@@ -162,7 +221,7 @@ impl Waiting {
         requires demand { DemandsFor live.now.state timeout process (stand_of live.now.state.program seat) demand }
         ensures { IsWaiting live.now.state timeout self.new }
     {
-        if was_asked(self.asked, seat) || !stands_there(live.seats(), process + 1, seat) {
+        if was_asked(self.asked, seat) || !is_next_there(live, process, seat) {
             return;
         }
         self.asked = Some(seat);

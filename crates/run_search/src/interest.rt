@@ -36,7 +36,7 @@ impl Interest {
     {
         let first = match arguments {
             [Want::Exactly(one)] => Some(*one),
-            [Want::Equal(e)] => worth(e, view),
+            [Want::Equal(e)] => worth(e.get(), view),
             _ => None,
         };
         Interest { number, first }

@@ -8,10 +8,10 @@ ghost use Rattle.run_search.specs.Kept.{Extends};
 ghost use Rattle.run_state.specs.Standing.{IsBody};
 ghost use Rattle.promela_run.specs.Moves.{moves_held, moves as all_moves};
 ghost use Rattle.run_search.specs.First.{AreFirst, moves_from, moves_of_level};
-ghost use Rattle.run_search.specs.Together.{IsSilence};
+ghost use Rattle.run_search.specs.Together.{IsAsked};
 ghost use Rattle.run_search.specs.Round.{IsKnown, round_at, round_under, live_under};
 
-use crate::common::Silence;
+use crate::common::{Asked, add_copies};
 use crate::demands::{ENOUGH_PROCESSES, all_demands, are_worth_knowing};
 use crate::foremost::first_asked;
 use crate::lent::lent;
@@ -42,35 +42,32 @@ fn add_moves_of_all(round: &Round<'_, '_, '_>, moves: &mut Vec<Move>) -> Result<
     Ok(())
 }
 
-/// Adds the moves of a process, at once where it is known that it has none there, and heeds it where it has none.
+/// Adds the moves of a process, and heeds them: those of the last that was asked, where it stands there and they are known to be the same.
 #[inline(always)]
 fn add_moves_heeding(
     round: &Round<'_, '_, '_>,
     process: usize,
     seat: Seat,
-    silence: &mut Silence,
+    asked: &mut Asked,
     moves: &mut Vec<Move>,
 ) -> Result<(), AllocError>
     requires known { IsKnown round.now }
     requires there { process < length round.now.live.now.state.stands }
-    requires silence { IsSilence round.now silence.old }
+    requires asked { IsAsked round.now asked.old moves.old.items }
     ensures added { OnOk result (moves.new.items ≡ moves.old.items ++ round_at round.now process seat) }
     ensures kept { Extends moves.new.items moves.old.items }
-    ensures silence { IsSilence round.now silence.new }
+    ensures asked { OnOk result (IsAsked round.now asked.new moves.new.items) }
 {
-    if silence.is_at(round, process, seat) {
-        return Ok(());
+    if asked.is_at(round, process, seat) {
+        return add_copies(process, asked.first, asked.end, moves);
     }
     let before = moves.len();
     add_moves_at(round, process, seat, moves)?;
-    if moves.len() == before {
-        silence.heed(round, process, seat);
-    }
+    asked.heed(round, process, seat, before, moves.as_slice());
     Ok(())
 }
 
-/// Adds the moves of all processes, where many live: of those who stand at one seat and have no moves there one is asked, if it may
-/// answer for all.
+/// Adds the moves of all processes, where many live: of those who stand at one seat one is asked, if it may answer for all.
 #[inline(never)]
 fn add_moves_of_many(round: &Round<'_, '_, '_>, moves: &mut Vec<Move>) -> Result<(), AllocError>
     requires { IsKnown round.now }
@@ -78,9 +75,9 @@ fn add_moves_of_many(round: &Round<'_, '_, '_>, moves: &mut Vec<Move>) -> Result
     ensures kept { Extends moves.new.items moves.old.items }
 {
     let seats = round.live.seats();
-    let mut silence = Silence::unknown();
+    let mut asked = Asked::nobody();
     for process in 0..seats.len() {
-        add_moves_heeding(round, process, seats[process], &mut silence, moves)?;
+        add_moves_heeding(round, process, seats[process], &mut asked, moves)?;
     }
     Ok(())
 }

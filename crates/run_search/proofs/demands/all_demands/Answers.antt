@@ -18,5 +18,5 @@ loop-j-preserved c =
     record {
       known = subst (λ (xs : List Demand). AreDemands s c.args.timeout xs) (sym e) (demands_push s c.args.timeout ws c.demand_known-demand.result c.loop-j.j _ c.loop-j.invariant.known (sym c.loop-j.invariant.many) at c.demand_known-demand.ensures);
       many = omega (arith, a, b, c.loop-j.invariant.many);
-      waiting = c.after-waiting.ensures;
+      waiting = c.heed.ensures;
     }

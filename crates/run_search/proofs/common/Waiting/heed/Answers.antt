@@ -9,4 +9,4 @@ returns c = λ x common same j.
     let s = c.args.live.now.state in
     let is : c.args.seat ≡ x = cc in
     subst (λ (z : Seat). DemandsFor s c.args.timeout j (stand_of s.program z) c.args.demand) is
-    ((c.is_common_seat.ensures common).demands c.args.timeout c.args.process j c.args.demand c.requires.demand)
+    ((c.is_common_seat-self.ensures common).demands c.args.timeout c.args.process j c.args.demand c.requires.demand)
