@@ -1,5 +1,5 @@
 -- What a receive asks for.
-use Rattle.std.proofs.Common.{◌≡◌, Bool, true, false, ◌&&◌, ◌||◌, List, [], ◌∷◌, ℤ, refl, sym, ap, ◌∙◌, subst, Option, Some, None, Result, Ok, Err}
+use Rattle.std.proofs.Common.{◌≡◌, Bool, true, false, ◌&&◌, List, [], ◌∷◌, ℤ, refl, sym, ap, ◌∙◌, Option, Some, None, Result, Ok, Err}
 use Rattle.std.specs.Ordering.{int_eq}
 use Rattle.std.specs.Result.{result_ok}
 use Rattle.diagnostics.specs.declared.fault.Fault.{Fault}
@@ -51,13 +51,3 @@ pub covers_same : (x y : Interest) (m : Message) → x.number ≡ y.number → x
 covers_same x y m e one d =
     ap (λ (n : ℤ). int_eq n m.number && begins_so y.first m.fields) (sym e)
     ∙ (ap (λ (o : Option ℤ). int_eq x.number m.number && begins_so o m.fields) (sym one) ∙ d)
-
--- ---- two
-
-pub neither_one : (a b : Bool) → (a || b) ≡ false → a ≡ false
-neither_one true b e = cc
-neither_one false b e = refl
-
-pub neither_two : (a b : Bool) → (a || b) ≡ false → b ≡ false
-neither_two true b e = cc
-neither_two false b e = e
