@@ -11,6 +11,8 @@ use Rattle.prepare.specs.Laws.{source, sources}
 use Rattle.prepare.proofs.Plain.{sources_are}
 use Rattle.names_apart.specs.declared.writing.TheConstants.{MOST_JOINT}
 use Rattle.names_apart.specs.declared.scope.Scope.{Scope}
+use Rattle.names_apart.specs.declared.labels.Labels.{Labels}
+use Rattle.names_apart.specs.Labels as labels
 use Rattle.names_apart.specs.Counted.{Counted}
 use Rattle.names_apart.specs.Scopes.{behind, start}
 use Rattle.names_apart.specs.Tallies.{count_at}
@@ -24,6 +26,13 @@ owns_are name cs s (t ∷ ts) = ap (λ (xs : List ℕ). source t ++ xs) (owns_ar
 
 pub owns_text : (name : List ℕ) (cs : List Counted) (text : List ℕ) → owns (changes name cs (stretches text)) ≡ text
 owns_text name cs text = owns_are name cs start (stretches text) ∙ sources_are _ true begun [] text
+
+labels_own : (name : List ℕ) (cs : List Counted) (s : Labels) (ts : List Written) → owns (labels.changes_by name cs s ts) ≡ sources ts
+labels_own name cs s [] = refl
+labels_own name cs s (t ∷ ts) = ap (λ (xs : List ℕ). source t ++ xs) (labels_own name cs (labels.behind s name (count_at cs t.kind t.token) t.kind t.token ts) ts)
+
+pub labels_own_text : (name : List ℕ) (cs : List Counted) (text : List ℕ) → owns (labels.changes name cs (stretches text)) ≡ text
+labels_own_text name cs text = labels_own name cs labels.start (stretches text) ∙ sources_are _ true begun [] text
 
 -- ---- runs of underscores
 

@@ -4,6 +4,7 @@ pub mod Scopes
 pub mod Tallies
 pub mod Changes
 pub mod Writing
+pub mod Labels
 pub mod Apart
 pub mod Found
 pub mod Laws

@@ -3,10 +3,11 @@
 ghost use Rattle.std.specs.Prelude.{◌≡◌, ◌<◌, IfOk, IfSome};
 ghost use Rattle.prepare.specs.Stretches as as_stretches;
 ghost use Rattle.names_apart.specs.Writing as writing;
-ghost use Rattle.names_apart.specs.Apart.{IsApart, IsDivision};
+ghost use Rattle.names_apart.specs.Apart.{IsApart, IsDivision, IsLabelDivision, IsStep};
 
-use crate::candidates::Candidate;
+use crate::candidates::{Candidate, Sort};
 use crate::changes::changes;
+use crate::labelled::{label_changes, labelled_of};
 use crate::tally::tally_of;
 use crate::writing::{MOST_JOINT, joint, written};
 use prepare::stretch::Stretch;
@@ -16,8 +17,8 @@ use std::alloc::{AllocError, Global};
 // At most so many bytes are cut into tokens in order to divide names.
 const MOST_READ: usize = 33_554_432;
 
-// The text of these stretches in which a name is divided; nothing where it is not, or where the text became too long.
-fn divided(
+// The text of these stretches in which a variable is divided; nothing where it is not, or where the text became too long.
+fn with_variables(
     alloc: Global,
     name: &[u8],
     joint: &[u8],
@@ -31,6 +32,37 @@ fn divided(
     }
     let changes = changes(alloc, name, &tally.table, stretches)?;
     written(alloc, name, joint, &changes)
+}
+
+// The same of the labels of a name.
+fn with_labels(
+    alloc: Global,
+    name: &[u8],
+    joint: &[u8],
+    stretches: &[Stretch<'_>],
+) -> Result<Option<Vec<u8>>, AllocError>
+    ensures { IfOk result (λ o. IfSome o (λ v. IsLabelDivision joint.now stretches.now v.items)) }
+{
+    let tally = labelled_of(alloc, name, stretches)?;
+    if !tally.is_divided() {
+        return Ok(None);
+    }
+    let changes = label_changes(alloc, name, &tally.table, stretches)?;
+    written(alloc, name, joint, &changes)
+}
+
+fn divided(
+    alloc: Global,
+    candidate: Candidate<'_>,
+    joint: &[u8],
+    stretches: &[Stretch<'_>],
+) -> Result<Option<Vec<u8>>, AllocError>
+    ensures { IfOk result (λ o. IfSome o (λ v. IsStep joint.now stretches.now v.items)) }
+{
+    match candidate.sort {
+        Sort::Variables => with_variables(alloc, candidate.name, joint, stretches),
+        Sort::Labels => with_labels(alloc, candidate.name, joint, stretches),
+    }
 }
 
 // A text in which one name is divided, and the number of the next one.
@@ -57,7 +89,7 @@ fn next_division<'t>(
     while at < names.len() {
         let candidate = names[at];
         at += 1;
-        if let Some(text) = divided(alloc, candidate.name, joint, &stretches)? {
+        if let Some(text) = divided(alloc, candidate, joint, &stretches)? {
             return Ok(Some(Division {
                 text,
                 candidate,

@@ -1,9 +1,10 @@
-//! The names that may be divided: those that bodies declare several times, or an inline once.
+//! The names that may be divided: those that bodies declare several times, or an inline once, and the labels of inlines.
 
 ghost use Rattle.std.specs.Prelude.{◌≡◌, ◌≤◌, length, IfOk, OnOk};
 ghost use Rattle.names_apart.specs.declared.candidates.TheConstants.{MOST_NAMES};
 ghost use Rattle.names_apart.specs.Found as found;
 
+use crate::labels::Labels;
 use crate::scope::Scope;
 use prepare::stretch::Stretch;
 use std::alloc::{AllocError, Global};
@@ -15,11 +16,19 @@ pub const MOST_NAMES: usize = 64;
 // A longer name stays.
 const MOST_LENGTH: usize = 64;
 
+/// What is divided of a name.
+#[derive(Clone, Copy)]
+pub enum Sort {
+    Variables,
+    Labels,
+}
+
 /// A name, and the line on which it is found to be one that may be divided.
 #[derive(Clone, Copy)]
 pub struct Candidate<'t> {
     pub name: &'t [u8],
     pub line: u64,
+    pub sort: Sort,
 }
 
 // The line behind a text.
@@ -72,7 +81,7 @@ fn add_declared<'t>(
     Ok(())
 }
 
-/// The names that may be divided, in the order in which the text has them.
+/// The names that may be divided, in the order in which the text has them: those of variables, and then those of labels.
 pub fn candidates<'t>(
     alloc: Global,
     stretches: &[Stretch<'t>],
@@ -91,12 +100,40 @@ pub fn candidates<'t>(
             add_declared(
                 &mut counts,
                 &mut out,
-                Candidate { name, line },
+                Candidate {
+                    name,
+                    line,
+                    sort: Sort::Variables,
+                },
                 scope.is_inline,
             )?;
         }
         line = line_behind(line, name);
         scope = scope.behind(b"", 0, kind, name);
     }
+    add_labels(&mut out, stretches)?;
     Ok(out)
+}
+
+// Adds the labels that inlines have.
+fn add_labels<'t>(out: &mut Vec<Candidate<'t>>, stretches: &[Stretch<'t>]) -> Result<(), AllocError>
+    ensures { OnOk result (length out.old.items ≤ MOST_NAMES → length out.new.items ≤ MOST_NAMES) }
+{
+    let mut counts: BTreeMap<&'t [u8], u32> = BTreeMap::new(*out.allocator());
+    let mut labels = Labels::start();
+    let mut line = 1;
+    let mut rest = stretches;
+    while let [stretch, back @ ..] = rest {
+        let kind = stretch.kind();
+        let name = stretch.token();
+        line = line_behind(line, stretch.gap());
+        if labels.is_inline && labels.is_label(kind, back) {
+            let sort = Sort::Labels;
+            add_declared(&mut counts, out, Candidate { name, line, sort }, true)?;
+        }
+        line = line_behind(line, name);
+        labels = labels.behind(b"", 0, kind, name, back);
+        rest = back;
+    }
+    Ok(())
 }

@@ -38,6 +38,13 @@ impl<'t> Model for Changed<'t> {
 }
 
 impl<'t> Changed<'t> {
+    /// A token behind a gap, with what becomes of it.
+    pub(crate) fn new(gap: &'t [u8], token: &'t [u8], change: Change) -> Changed<'t>
+        ensures { result ≡ record { gap = gap.now; token = token.now; change = change } }
+    {
+        Changed { gap, token, change }
+    }
+
     /// The blanks and comments before the token.
     pub fn gap(&self) -> &'t [u8]
         ensures { result.now ≡ self.now.gap }
@@ -61,7 +68,7 @@ impl<'t> Changed<'t> {
 }
 
 // The number that is written: in an inline one more, since there the name is a parameter, which is to be no field.
-fn index(is_inline: bool, number: u32) -> u32
+pub(crate) fn index(is_inline: bool, number: u32) -> u32
     ensures { result ≡ changes.index is_inline number }
 {
     if is_inline { more(number, 1) } else { number }

@@ -4,6 +4,8 @@
 pub mod apart;
 pub mod candidates;
 pub mod changes;
+pub mod labelled;
+pub mod labels;
 pub mod laws;
 pub mod scope;
 pub mod tally;

@@ -112,7 +112,7 @@ impl Force {
     }
 }
 
-fn braces_behind(braces: u32, kind: Kind) -> u32
+pub(crate) fn braces_behind(braces: u32, kind: Kind) -> u32
     ensures { result ≡ scopes.braces_behind braces kind }
 {
     match kind {
@@ -122,7 +122,7 @@ fn braces_behind(braces: u32, kind: Kind) -> u32
     }
 }
 
-fn parens_behind(parens: u32, kind: Kind) -> u32
+pub(crate) fn parens_behind(parens: u32, kind: Kind) -> u32
     ensures { result ≡ scopes.parens_behind parens kind }
 {
     match kind {
@@ -172,7 +172,7 @@ impl Call {
     }
 
     /// Behind a token, which is the name of an inline that declares the name so often.
-    fn behind(self, parens: u32, count: u32, kind: Kind) -> Call
+    pub(crate) fn behind(self, parens: u32, count: u32, kind: Kind) -> Call
         ensures { result ≡ scopes.call_behind self parens count kind }
     {
         match kind {

@@ -25,6 +25,13 @@ impl<'t> Model for Counted<'t> {
 }
 
 impl<'t> Counted<'t> {
+    /// An inline that declares the name so often.
+    pub(crate) fn new(inline: &'t [u8], count: u32) -> Counted<'t>
+        ensures { result ≡ record { inline = inline.now; count = count } }
+    {
+        Counted { inline, count }
+    }
+
     /// What the inline is called.
     pub fn inline(&self) -> &'t [u8]
         ensures { result.now ≡ self.now.inline }
@@ -111,7 +118,7 @@ fn front<'t>(stretches: &[Stretch<'t>]) -> &'t [u8]
     }
 }
 
-fn home_behind<'t>(home: &'t [u8], kind: Kind, back: &[Stretch<'t>]) -> &'t [u8]
+pub(crate) fn home_behind<'t>(home: &'t [u8], kind: Kind, back: &[Stretch<'t>]) -> &'t [u8]
     ensures { result.now ≡ tallies.home_behind home.now kind back.now }
 {
     if same_kind(kind, Kind::Inline) {

@@ -6,6 +6,7 @@ use Rattle.prepare.specs.Laws.{lined, separated, exchanged, has_tokens_alone}
 use Rattle.mtype_commas.specs.Writing.{punctuated}
 use Rattle.computed_sizes.specs.Resizing.{resized}
 use Rattle.declared_steps.specs.Writing.{stepped}
+use Rattle.listed_values.specs.Writing.{valued}
 use Rattle.record_messages.specs.Writing.{recorded}
 use Rattle.names_apart.specs.Writing.{joint}
 use Rattle.names_apart.specs.Apart.{IsApart}
@@ -27,7 +28,7 @@ rewritten text = exchanged (resized (separated text))
 -- it is made of a text that is without `#` lines and macros, and has no more bytes than it may
 pub record IsMadeOf (text : List ℕ) (p : Prepared) : Type 0 where
   pub short : length text ≤ MOST_BYTES
-  pub made : IsDivided (recorded (stepped (rewritten (punctuated text)))) p.text.items
+  pub made : IsDivided (recorded (stepped (valued (rewritten (punctuated text))))) p.text.items
   pub told : TellsTokens p.is_left (punctuated text)
 
 -- what a preprocessor may leave of an author's text: the text itself, where it is to be read as it is, and where no macro is given and nothing in it is for one

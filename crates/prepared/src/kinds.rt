@@ -26,8 +26,12 @@ pub enum What {
     Loop,
     // A declaration that is a step is an assignment.
     Stepped,
+    // The first step sets the elements of a list.
+    Valued,
     // A name that a body declares several times is divided.
     Divided,
+    // A label of several calls is divided.
+    Labelled,
 }
 
 // The lines from one to another.
@@ -80,8 +84,14 @@ impl<'t> Kind<'t> {
             What::Stepped => format!(in alloc;
                 "a declaration that is a step in Spin is an assignment here"
             ),
+            What::Valued => format!(in alloc;
+                "the values of a list of initialisers are set by one more step, which is the first"
+            ),
             What::Divided => format!(in alloc;
                 "'{word}' is declared in several blocks or calls: each has a name of its own"
+            ),
+            What::Labelled => format!(in alloc;
+                "'{word}' is a label of several calls: each has a name of its own"
             ),
             What::Loop => format!(in alloc;
                 "a 'for' over '{word}' is left as it is: that is no array with one number for its size"
@@ -138,7 +148,7 @@ impl<'t> Kind<'t> {
 // The word by which a kind is known: of a line for a preprocessor its first word, and of bytes, characters and blanked subtypes none.
 fn key(what: What, word: &[u8]) -> &[u8] {
     match what {
-        What::Apostrophe | What::Bytes | What::Subtypes | What::Stepped => b"",
+        What::Apostrophe | What::Bytes | What::Subtypes | What::Stepped | What::Valued => b"",
         _ => match word {
             [b'#', ..] => directive(word),
             _ => word,

@@ -1,5 +1,7 @@
 //! Where the lines of included files stand in what is prepared: on the line of their `#include`, a form feed behind each.
 
+ghost use Rattle.std.specs.Prelude.{◌≤◌, length};
+
 use prepare::FORM_FEED;
 use prepare::markers::{Marker, marker_of};
 use std::alloc::{AllocError, Global};
@@ -20,7 +22,9 @@ pub struct Lines<'t> {
     is_due: bool,
 }
 
-fn count(line: &[u8], wanted: u8) -> u64 {
+fn count(line: &[u8], wanted: u8) -> u64
+    ensures { result ≤ length line.now }
+{
     let mut count: u64 = 0;
     for byte in line {
         if *byte == wanted {

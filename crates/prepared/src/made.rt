@@ -8,6 +8,7 @@ ghost use Rattle.prepare.specs.Spelling as as_spelling;
 ghost use Rattle.prepare.specs.Laws as laws;
 ghost use Rattle.mtype_commas.specs.Writing.{punctuated};
 ghost use Rattle.declared_steps.specs.Writing.{stepped};
+ghost use Rattle.listed_values.specs.Writing.{valued};
 ghost use Rattle.record_messages.specs.Writing.{recorded};
 ghost use Rattle.prepared.specs.Made.{rewritten, TellsTokens, IsDivided, IsMadeOf, IsPreparedOf};
 
@@ -19,9 +20,10 @@ use crate::report::{Called, Report};
 use crate::unprepared::Unprepared;
 use computed_sizes::writing::with_sizes;
 use declared_steps::writing::{Stepped, with_steps};
+use listed_values::writing::{Valued, with_values};
 use mtype_commas::writing::with_commas;
 use names_apart::apart::{DividedText, divide_names};
-use names_apart::candidates::candidates;
+use names_apart::candidates::{Sort, candidates};
 use pml_token::token::{Kind, same_kind};
 use prepare::MOST_BYTES;
 use prepare::changes::{exchanges, respelled};
@@ -108,23 +110,39 @@ fn exchanged<'t>(
     respelled(alloc, &exchanges)
 }
 
-// What is made of it by its declarations that are steps, of which the report hears, and by its records that are messages.
+// What is made of it by its lists of initialisers and by its declarations that are steps, of which the report hears.
+fn with_assignments(
+    alloc: Global,
+    text: Vec<u8>,
+    report: &mut Report<'_>,
+) -> Result<Vec<u8>, AllocError>
+    ensures { IfOk result (λ v. v.items ≡ stepped (valued text.items)) }
+{
+    let Valued { text, lines } = with_values(alloc, text)?;
+    for line in &lines {
+        report.add(What::Valued, b"", *line);
+    }
+    let Stepped { text, lines } = with_steps(alloc, text)?;
+    for line in &lines {
+        report.add(What::Stepped, b"", *line);
+    }
+    Ok(text)
+}
+
+// What is made of it by these, and by its records that are messages.
 fn with_records(
     alloc: Global,
     text: Vec<u8>,
     report: &mut Report<'_>,
 ) -> Result<Vec<u8>, AllocError>
-    ensures { IfOk result (λ v. v.items ≡ recorded (stepped text.items)) }
+    ensures { IfOk result (λ v. v.items ≡ recorded (stepped (valued text.items))) }
 {
-    let Stepped { text, lines } = with_steps(alloc, text)?;
-    for line in &lines {
-        report.add(What::Stepped, b"", *line);
-    }
+    let text = with_assignments(alloc, text, report)?;
     with_fields(alloc, text)
 }
 
-// Tells the report of the loops over arrays that are left.
-fn tell_loops<'t>(
+// Tells the report of the loops over arrays and of the lists that are left.
+fn tell_left<'t>(
     alloc: Global,
     tokens: &[Stretch<'t>],
     report: &mut Report<'t>,
@@ -134,6 +152,10 @@ fn tell_loops<'t>(
         for exchange in &exchanges(alloc, tokens)? {
             report.left_loop(exchange);
         }
+    }
+    report.again();
+    for stretch in tokens {
+        report.left_list(stretch);
     }
     Ok(())
 }
@@ -158,13 +180,17 @@ fn divided<'t>(
     let mut report = report;
     let tokens = stretches(alloc, text)?;
     let names = candidates(alloc, &tokens)?;
-    tell_loops(alloc, &tokens, &mut report)?;
+    tell_left(alloc, &tokens, &mut report)?;
     drop(tokens);
     let mut copy = Vec::new(alloc);
     copy.extend_from_slice(text)?;
     let DividedText { text, names } = divide_names(alloc, &names, copy)?;
     for candidate in &names {
-        report.add(What::Divided, candidate.name, candidate.line);
+        let what = match candidate.sort {
+            Sort::Variables => What::Divided,
+            Sort::Labels => What::Labelled,
+        };
+        report.add(what, candidate.name, candidate.line);
     }
     let (said, is_left) = report.end(called);
     Ok(Made {
@@ -181,7 +207,7 @@ fn made_of_separated<'t>(
     report: Report<'t>,
     called: Called<'_>,
 ) -> Result<Made, AllocError>
-    ensures { IfOk result (λ m. IsDivided (recorded (stepped (laws.exchanged text.now))) m.text.items) }
+    ensures { IfOk result (λ m. IsDivided (recorded (stepped (valued (laws.exchanged text.now)))) m.text.items) }
 {
     let mut report = report;
     let exchanged = exchanged(alloc, text, &mut report)?;
@@ -192,7 +218,7 @@ fn made_of_separated<'t>(
 // What is made of a text whose lists have their commas.
 fn made_of(alloc: Global, text: &[u8], called: Called<'_>) -> Result<Made, AllocError>
     requires { length text.now ≤ MOST_BYTES }
-    ensures made { IfOk result (λ m. IsDivided (recorded (stepped (rewritten text.now))) m.text.items) }
+    ensures made { IfOk result (λ m. IsDivided (recorded (stepped (valued (rewritten text.now)))) m.text.items) }
     ensures told { IfOk result (λ m. TellsTokens m.is_left text.now) }
 {
     let lines = numbered(alloc, text)?;
@@ -215,7 +241,7 @@ fn made_of(alloc: Global, text: &[u8], called: Called<'_>) -> Result<Made, Alloc
 // What is made of a text, with commas between the names of each `mtype`.
 fn made_with_commas(alloc: Global, text: &[u8], called: Called<'_>) -> Result<Made, AllocError>
     requires { length text.now ≤ MOST_BYTES }
-    ensures made { IfOk result (λ m. IsDivided (recorded (stepped (rewritten (punctuated text.now)))) m.text.items) }
+    ensures made { IfOk result (λ m. IsDivided (recorded (stepped (valued (rewritten (punctuated text.now))))) m.text.items) }
     ensures told { IfOk result (λ m. TellsTokens m.is_left (punctuated text.now)) }
 {
     let punctuated = with_commas(alloc, text)?;

@@ -104,7 +104,8 @@ impl<'t> Report<'t> {
                 });
             }
             Remark::LeftOut => self.left(left_out(stretch.token()), stretch.token()),
-            Remark::List => self.left(What::List, stretch.token()),
+            // it may become a value, or be set by a step
+            Remark::List => {}
         }
     }
 
@@ -159,6 +160,15 @@ impl<'t> Report<'t> {
             self.left(What::Loop, token);
         }
         self.line = self.line.saturating_add(feeds(token));
+    }
+
+    /// Reads one token more, of a text in which lists of initialisers are values where they may: the other ones are left.
+    pub fn left_list(&mut self, stretch: &Stretch<'t>) {
+        self.line = self.line.saturating_add(feeds(stretch.gap()));
+        if matches!(stretch.remark(), Remark::List) {
+            self.left(What::List, stretch.token());
+        }
+        self.line = self.line.saturating_add(feeds(stretch.token()));
     }
 
     /// Something is made otherwise on a line.
