@@ -4,7 +4,7 @@ Columns of a place are bytes of a text of ASCII. Inlines are replaced with their
 import collections
 import re
 
-TOKEN = re.compile(r"""(?P<gap>\s+|/\*.*?\*/|//[^\n]*)|(?P<string>"(?:[^"\\]|\\.)*")|(?P<char>'(?:[^'\\]|\\.)')|(?P<name>[A-Za-z_]\w*)|(?P<number>\d+)"""
+TOKEN = re.compile(r"""(?P<gap>\s+|/\*.*?\*/|//[^\n]*|\#[^\n]*)|(?P<string>"(?:[^"\\]|\\.)*")|(?P<char>'(?:[^'\\]|\\.)')|(?P<name>[A-Za-z_]\w*)|(?P<number>\d+)"""
                    r"""|(?P<sign>::|->|\.\.|\+\+|--|<<|>>|<=|>=|==|!=|&&|\|\||!!|\?\?|.)""", re.S)
 TYPES = {"bit", "bool", "byte", "pid", "short", "int", "mtype", "chan", "unsigned"}
 WORDS = TYPES | set("active assert atomic break d_step do else empty enabled eval false fi for full goto hidden if init inline len local nempty nfull od of "
@@ -43,6 +43,9 @@ class Reading:
     def __init__(self, text):
         self.inner, self.outer, self.sorts, self.lengths = [], [], {}, {}
         self.inlines, self.globals, self.fields = {}, {}, {}
+        # the parameters of inlines
+        self.parameters = set()
+        self.text = text
         tokens = self.without_inlines(tokens_of(text))
         self.proctypes = {}
         for at, token in enumerate(tokens[:-1]):
@@ -63,6 +66,7 @@ class Reading:
                 last = closing(tokens, end + 1, "{", "}")
                 body = tokens[end + 2:last]
                 self.inlines[name.text] = (name, [p.text for p in parameters], body)
+                self.parameters.update(p.at for p in parameters)
                 self.note(self.inner, name, name.at)
                 self.sorts[name.at] = 12
                 for parameter in parameters:
@@ -271,3 +275,20 @@ class Reading:
 
     def places_of(self, declared):
         return sorted({a for a, d in self.inner + self.outer if d == declared})
+
+    def colours(self):
+        """Each token that is coloured, in the order of the text: its place, its length, and the kinds that it may have."""
+        numbers = {13: 0, 8: 1, 22: 2, 23: 3, 5: 4, 12: 5, 20: 7}
+        out = []
+        for token in tokens_of(self.text):
+            if token.kind == "number":
+                kinds = {9}
+            elif token.kind == "string":
+                kinds = {10}
+            elif is_name(token):
+                kinds = {6 if at in self.parameters else numbers[self.sorts[at]] for at in self.declared_at(token.at)}
+            else:
+                kinds = {8} if token.kind == "name" else set()
+            if kinds:
+                out.append((token.at, len(token.text), kinds))
+        return out

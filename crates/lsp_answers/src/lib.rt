@@ -2,6 +2,7 @@
 #![tactic(auto)]
 
 mod answers;
+mod colours;
 mod documents;
 mod fields;
 mod questions;

@@ -1,16 +1,18 @@
 //! What is answered to a message.
 
-ghost use Rattle.std.specs.Prelude.{◌≡◌, codes, Some, IfOk, option_map};
+ghost use Rattle.std.specs.Prelude.{◌≡◌, true, codes, Some, IfOk, option_map};
 ghost use Rattle.serde_json.specs.Find.{get};
 ghost use Rattle.serde_json.specs.View.{view};
 ghost use Rattle.lsp_answers.specs.Messages.{RepliesTo};
 
 use crate::answers::answer;
+use crate::colours::{Extent, colours};
 use crate::documents::Documents;
 use crate::fields::{lists, text_at};
 use crate::questions::Question;
 use crate::replies::{Fault, refused, reply};
 use crate::told::{told_nothing, told_of};
+use lsp_tokens::legend;
 use serde_json::{Value, json};
 use std::alloc::{AllocError, Global};
 use text_places::Unit;
@@ -29,6 +31,7 @@ fn capabilities(alloc: Global, unit: Unit) -> Result<Value, AllocError> {
         Unit::Utf8 => "utf-8",
         Unit::Utf16 => "utf-16",
     };
+    let legend = legend(alloc)?;
     json!(in alloc; {
         "capabilities": {
             "positionEncoding": encoding,
@@ -38,7 +41,8 @@ fn capabilities(alloc: Global, unit: Unit) -> Result<Value, AllocError> {
             "documentHighlightProvider": true,
             "hoverProvider": true,
             "documentSymbolProvider": true,
-            "renameProvider": {"prepareProvider": true}
+            "renameProvider": {"prepareProvider": true},
+            "semanticTokensProvider": {"legend": legend, "full": true, "range": true}
         },
         "serverInfo": {"name": "spinlsp", "version": "0.9.0"}
     })
@@ -63,7 +67,10 @@ impl Server {
     }
 
     // Columns are bytes where the client can count them, and else units of UTF-16.
-    fn begin(&mut self, message: &Value) {
+    fn begin(&mut self, message: &Value)
+        ensures ready { self.new.is_ready ≡ true }
+        ensures shut { self.new.is_shut ≡ self.old.is_shut }
+    {
         self.is_ready = true;
         if lists(
             message,
@@ -109,6 +116,9 @@ impl Server {
             if let Some(question) = Question::of(method) {
                 return self.answered(alloc, id, question, message);
             }
+            if let Some(extent) = Extent::of(method) {
+                return self.coloured(alloc, id, extent, message);
+            }
         }
         refused(alloc, id, self.fault_of(method))
     }
@@ -128,6 +138,26 @@ impl Server {
             return refused(alloc, id, Fault::NotOpen);
         };
         match answer(alloc, document.page(self.unit), question, message)? {
+            Ok(what) => reply(alloc, id, &what),
+            Err(fault) => refused(alloc, id, fault),
+        }
+    }
+
+    // Answers what colours a text, if that is open.
+    fn coloured(
+        &self,
+        alloc: Global,
+        id: &Value,
+        extent: Extent,
+        message: &Value,
+    ) -> Result<Value, AllocError>
+        ensures { IfOk result (λ v. get (codes "id") (view v) ≡ Some (view id.now)) }
+    {
+        let uri = text_at(message, "/params/textDocument/uri");
+        let Some(document) = self.documents.find(uri) else {
+            return refused(alloc, id, Fault::NotOpen);
+        };
+        match colours(alloc, document.page(self.unit), extent, message)? {
             Ok(what) => reply(alloc, id, &what),
             Err(fault) => refused(alloc, id, fault),
         }

@@ -3,5 +3,5 @@
 
 pub mod hover;
 pub mod places;
-mod sorts;
+pub mod sorts;
 pub mod symbols;
