@@ -1,15 +1,13 @@
 //! Seats at which every process can take the same, so that of many who stand there one is asked.
 
-ghost use Rattle.std.specs.Prelude.{◌≡◌, ◌+◌, ◌++◌, ◌<◌, ◌≤◌, true, false, IfSome, OnOk, Some, ℕ, List, length, map, take, drop};
+ghost use Rattle.std.specs.Prelude.{◌≡◌, ◌+◌, ◌++◌, ◌<◌, ◌≤◌, true, false, IfSome, OnOk, Some, ℕ, length, map, take, drop};
 ghost use Rattle.common_offers.specs.Offers.{AreCommonOffers, by_process};
 ghost use Rattle.run_state.specs.Standing.{IsBody, shows, stand_of};
 ghost use Rattle.run_search.specs.Kept.{Extends};
-ghost use Rattle.run_search.specs.Together.{IsCommonSeat, IsAsked, shared_by, IsWaiting};
+ghost use Rattle.run_search.specs.Together.{IsCommonSeat, IsWaiting};
 ghost use Rattle.run_search.specs.Demands.{DemandsFor};
-ghost use Rattle.run_search.specs.Round.{round_at};
 
 use crate::demands::Demand;
-use crate::round::Round;
 use common_offers::statement::is_common_offer;
 use pml_flow::edge::Edge;
 use promela_run::moves::{Move, Pick};
@@ -34,7 +32,7 @@ fn is_common_level(body: &Body<'_, '_, '_>, edges: &[Edge]) -> bool
 /// Whether of the processes that stand there one can be asked for all, as at a closing brace. It may say no where that is so.
 #[inline(never)]
 #[tactic(auto, using(crate::proofs::Together::common_seat, crate::proofs::Together::closed_seat))]
-fn is_common_seat(live: &Live<'_, '_>, seat: Seat) -> bool
+pub(crate) fn is_common_seat(live: &Live<'_, '_>, seat: Seat) -> bool
     ensures { result ≡ true → IsCommonSeat live.now.state seat }
 {
     let Some(body) = live.standing(seat) else {
@@ -48,7 +46,7 @@ fn is_common_seat(live: &Live<'_, '_>, seat: Seat) -> bool
 
 /// Whether two processes stand at one place of one proctype.
 #[inline(always)]
-fn is_same(one: Seat, other: Seat) -> bool
+pub(crate) fn is_same(one: Seat, other: Seat) -> bool
     ensures { result ≡ true → one ≡ other }
 {
     one.sort == other.sort && one.node == other.node
@@ -82,66 +80,6 @@ fn is_next_there(live: &Live<'_, '_>, process: usize, seat: Seat) -> bool
     ensures { result ≡ true → process + 1 < length live.now.state.stands }
 {
     has_next(live, process) && is_same(live.seats()[process + 1], seat)
-}
-
-/// The last seat that was asked in a round, where its moves lie in the list, and whether each who stands there has the same but, maybe,
-/// the youngest.
-#[derive(Clone, Copy)]
-pub(crate) struct Asked {
-    pub seat: Option<Seat>,
-    pub is_common: bool,
-    pub first: usize,
-    pub end: usize,
-}
-
-impl Asked {
-    /// Nothing is known.
-    #[inline(always)]
-    pub(crate) fn nobody() -> Asked
-        ensures common { result.is_common ≡ false }
-        ensures end { result.end ≡ 0 }
-    {
-        Asked {
-            seat: None,
-            is_common: false,
-            first: 0,
-            end: 0,
-        }
-    }
-
-    /// Whether the process is known to have the same moves there. Of the youngest nothing is known: it may die there.
-    #[inline(always)]
-    pub(crate) fn is_at(&self, round: &Round<'_, '_, '_>, process: usize, seat: Seat) -> bool
-        requires { process < length round.now.live.now.state.stands }
-        ensures { result ≡ true → (ms : List Move) → IsAsked round.now self.now ms → round_at round.now process seat ≡ shared_by process self.now ms }
-    {
-        self.is_common && was_asked(self.seat, seat) && has_next(round.live, process)
-    }
-
-    /// Heeds the moves of a process where it stands, which lie behind the first so many. The seat is asked for all only where the next
-    /// stands there too.
-    #[inline(always)]
-    pub(crate) fn heed(
-        &mut self,
-        round: &Round<'_, '_, '_>,
-        process: usize,
-        seat: Seat,
-        before: usize,
-        moves: &[Move],
-    )
-        requires there { process < length round.now.live.now.state.stands }
-        requires known { IsAsked round.now self.old moves.now }
-        requires moves { drop before moves.now ≡ round_at round.now process seat }
-        ensures { IsAsked round.now self.new moves.now }
-    {
-        if was_asked(self.seat, seat) || !is_next_there(round.live, process, seat) {
-            return;
-        }
-        self.seat = Some(seat);
-        self.is_common = is_common_seat(round.live, seat);
-        self.first = before;
-        self.end = moves.len();
-    }
 }
 
 /// The same move by another process.
