@@ -1,5 +1,5 @@
 -- Seats at which every process can take the same, so that one is asked for all.
-use Rattle.std.specs.Prelude.{◌≡◌, ◌+◌, ◌<◌, ◌≤◌, ℕ, Bool, true, length, map, Some, slice_get}
+use Rattle.std.specs.Prelude.{◌≡◌, ◌+◌, ◌<◌, ◌≤◌, ℕ, Bool, length, map, Some, slice_get}
 use Rattle.promela_run.specs.declared.moves.Move.{Move}
 use Rattle.promela_run.specs.State.{State}
 use Rattle.promela_run.specs.Moves.{moves_at}
@@ -7,7 +7,6 @@ use Rattle.common_offers.specs.Offers.{by_process}
 use Rattle.run_state.specs.declared.seat.Seat.{Seat}
 use Rattle.run_state.specs.Standing.{stand_of}
 use Rattle.run_search.specs.declared.demands.Demand.{Demand}
-use Rattle.run_search.specs.declared.common.Waiting.{Waiting}
 use Rattle.run_search.specs.Demands.{DemandsFor}
 
 -- Each process that stands here has the moves of another, by its own offers, but the youngest, who may die; and where one waits for
@@ -19,7 +18,3 @@ pub record IsCommonSeat (s : State) (x : Seat) : Type 0 where
 -- the processes from the first on, up to the other, stand there
 abbrev pub StandThere : State → Seat → ℕ → ℕ → Type 0
 StandThere s x first end = (m : ℕ) → first ≤ m → m < end → slice_get s.stands m ≡ Some (stand_of s.program x)
-
--- each process that stands there waits for these messages alone
-abbrev pub IsWaiting : State → Bool → Waiting → Type 0
-IsWaiting s t z = (x : Seat) → z.is_common ≡ true → z.asked ≡ Some x → (j : ℕ) → DemandsFor s t j (stand_of s.program x) z.demand

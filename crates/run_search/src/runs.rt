@@ -7,35 +7,12 @@ ghost use Rattle.run_search.specs.Kept.{Extends};
 ghost use Rattle.run_search.specs.Round.{IsKnown, round_at, round_behind, round_under};
 ghost use Rattle.run_search.specs.Together.{StandThere};
 
-use crate::common::{add_copies, is_common_seat, is_same};
+use crate::common::{add_copies, is_common_seat, next_elsewhere};
 use crate::process::add_moves_at;
 use crate::round::Round;
 use promela_run::moves::Move;
-use run_state::live::Live;
 use run_state::seat::Seat;
 use std::alloc::AllocError;
-
-/// The next process that stands elsewhere, or the youngest, of whom nothing is known: it may die.
-#[inline(always)]
-fn next_elsewhere(live: &Live<'_, '_>, process: usize, seat: Seat) -> usize
-    requires { process < length live.now.state.stands }
-    ensures behind { process < result }
-    ensures there { StandThere live.now.state seat (process + 1) result }
-    ensures older { process + 1 < result → result < length live.now.state.stands }
-{
-    let seats = live.seats();
-    let youngest = seats.len() - 1;
-    for at in process + 1..youngest {
-        if !is_same(seats[at], seat) {
-            return at;
-        }
-    }
-    if process < youngest {
-        youngest
-    } else {
-        process + 1
-    }
-}
 
 /// Adds the moves of processes who stand at one seat, one after another.
 fn add_each(
@@ -71,7 +48,7 @@ fn add_moves_behind(
     requires known { IsKnown round.now }
     requires order { asked < end }
     requires older { end < length round.now.live.now.state.stands }
-    requires there { StandThere round.now.live.now.state seat (asked + 1) end }
+    requires there { StandThere round.now.live.now.state seat asked end }
     requires moves { drop begin moves.old.items ≡ round_at round.now asked seat }
     ensures added { OnOk result (moves.new.items ++ round_behind round.now end ≡ moves.old.items ++ round_behind round.now (asked + 1)) }
     ensures kept { Extends moves.new.items moves.old.items }
