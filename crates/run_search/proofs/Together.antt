@@ -1,7 +1,7 @@
 -- Where every process can take the same, one is asked for all.
-use Rattle.std.proofs.Common.{◌≡◌, ℕ, zero, suc, ◌+◌, ◌<◌, ◌≤◌, Bool, true, false, nat_eq, min, List, [], ◌∷◌, ◌++◌, take, drop, get_or, map, length, append-nil, append_assoc, length-append, Some, refl, sym, ap, subst, ◌∙◌, arith}
+use Rattle.std.proofs.Common.{◌≡◌, ℕ, zero, suc, ◌+◌, ◌-◌, ◌<◌, ◌≤◌, Bool, true, false, nat_eq, min, List, [], ◌∷◌, ◌++◌, take, drop, get_or, map, length, append-nil, append_assoc, length-append, Some, refl, sym, ap, subst, ◌∙◌, arith}
 use Rattle.std.specs.Prelude.{slice_get}
-use Rattle.std.proofs.lemmas.List.{drop_all, length-take, take-append-le}
+use Rattle.std.proofs.lemmas.List.{drop_all, length-map, length-take, take-append-le}
 use Rattle.std.proofs.Math.Seq.{take-length}
 use Rattle.pml_flow.specs.declared.edge.Edge.{Edge}
 use Rattle.promela_run.specs.declared.moves.Pick.{Pick}
@@ -20,6 +20,7 @@ use Rattle.run_search.specs.Kept.{Extends}
 use Rattle.run_search.specs.Round.{round_at, round_behind}
 use Rattle.run_search.specs.Together.{IsCommonSeat, StandThere}
 use Rattle.run_state.proofs.Finding.{opens_at, held}
+use Rattle.run_state.proofs.Placing.{seat_stands}
 use Rattle.run_search.proofs.Placing.{moves_in, moves_closed, pairs_in}
 use Rattle.run_search.proofs.Waiting.{demands_in, demands_closed}
 
@@ -93,8 +94,8 @@ all_silent r x p end begin ms common order older there moves all =
     sym (none_behind r x (p + 1) (end - (p + 1))
     (λ m a b. let c : m < end = omega (arith, b, e) in there m a c)
     (λ m a b.
-        let c : m + 1 < length r.live.now.state.stands = omega (arith, b, e, older) in
-        common.moves r.timeout p m l c ∙ ap (map (by_process m)) none)
+    let c : m + 1 < length r.live.now.state.stands = omega (arith, b, e, older) in
+    common.moves r.timeout p m l c ∙ ap (map (by_process m)) none)
     ∙ ap (λ (k : ℕ). round_behind r k) e)
 
 -- what lay at the front lies there still
@@ -119,6 +120,17 @@ one_shared r x p n begin behind new mid old all common l k at moves is ext e sam
 -- behind the last nobody is left
 pub nobody_behind : (r : Round) (n : ℕ) → length r.live.now.state.stands ≤ n → round_behind r n ≡ []
 nobody_behind r n l = ap (λ (ys : List Stand). each (λ p y. moves_at r.live.now.state p r.timeout y) n ys) (drop_all n r.live.now.state.stands l)
+
+-- the process at a place stands where its seat is
+pub seat_there : (s : State) (xs : List Seat) (p : ℕ) (d : Seat) → map (stand_of s.program) xs ≡ s.stands → p < length s.stands → slice_get s.stands p ≡ Some (stand_of s.program (get_or xs p d))
+seat_there s xs p d e l =
+    let many : length s.stands ≡ length xs = ap length (sym e) ∙ length-map xs (stand_of s.program) in
+    let k : p < length xs = omega (arith, l, many) in
+    seat_stands s.program xs s.stands p (get_or xs p d) e (held xs p d k)
+
+-- one stands there alone
+pub only_there : (s : State) (x : Seat) (p : ℕ) → slice_get s.stands p ≡ Some (stand_of s.program x) → StandThere s x p (p + 1)
+only_there s x p at m a b = let is : m ≡ p = omega (arith, a, b) in ap (slice_get s.stands) is ∙ at
 
 -- one more that stands there
 pub one_there : (s : State) (x : Seat) (first end : ℕ) → slice_get s.stands end ≡ Some (stand_of s.program x) → StandThere s x first end → StandThere s x first (end + 1)

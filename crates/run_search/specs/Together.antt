@@ -1,6 +1,5 @@
 -- Seats at which every process can take the same, so that one is asked for all.
 use Rattle.std.specs.Prelude.{◌≡◌, ◌+◌, ◌<◌, ◌≤◌, ℕ, Bool, length, map, Some, slice_get}
-use Rattle.promela_run.specs.declared.moves.Move.{Move}
 use Rattle.promela_run.specs.State.{State}
 use Rattle.promela_run.specs.Moves.{moves_at}
 use Rattle.common_offers.specs.Offers.{by_process}

@@ -1,4 +1,4 @@
-use Rattle.std.proofs.Common.{◌≡◌, ◌++◌, ◌-◌, ℕ, length}
+use Rattle.std.proofs.Common.{◌≡◌, ◌++◌, ◌-◌, length}
 use Rattle.run_search.specs.Kept.{Extends}
 use Rattle.run_search.specs.Round.{round_behind}
 use Rattle.run_search.proofs.runs.add_moves_of_many.Given as goal
