@@ -1,26 +1,26 @@
 -- Where every process can take the same, one is asked for all.
-use Rattle.std.proofs.Common.{◌≡◌, ℕ, zero, suc, ◌+◌, ◌<◌, ◌≤◌, Bool, true, false, nat_eq, min, List, [], ◌∷◌, ◌++◌, take, drop, get_or, map, length, append-nil, append_assoc, length-append, Some, refl, sym, ap, subst, ◌∙◌, arith}
+use Rattle.std.proofs.Common.{◌≡◌, ℕ, zero, suc, ◌+◌, ◌-◌, ◌<◌, ◌≤◌, Bool, true, false, nat_eq, min, List, [], ◌∷◌, ◌++◌, take, drop, get_or, map, length, append-nil, append_assoc, length-append, Some, refl, sym, ap, subst, ◌∙◌, arith}
 use Rattle.std.specs.Prelude.{slice_get}
-use Rattle.std.proofs.lemmas.List.{drop_all, length-take, take-append-le}
+use Rattle.std.proofs.lemmas.List.{drop_all, length-map, length-take, take-append-le}
 use Rattle.std.proofs.Math.Seq.{take-length}
 use Rattle.pml_flow.specs.declared.edge.Edge.{Edge}
 use Rattle.promela_run.specs.declared.moves.Pick.{Pick}
-use Rattle.promela_run.specs.State.{State}
+use Rattle.promela_run.specs.State.{Stand, State}
 use Rattle.promela_run.specs.declared.moves.Move.{Move}
 use Rattle.promela_run.specs.declared.moves.Move.TheVariants.{Death}
-use Rattle.promela_run.specs.Moves.{Message, last, only_if, pick, moves_on, moves_at, pairs_on, pairs_with}
+use Rattle.promela_run.specs.Moves.{Message, each, last, only_if, pick, moves_on, moves_at, pairs_on, pairs_with}
 use Rattle.common_offers.specs.Offers.{IsCommonOffer, AreCommonOffers, by_process}
 use Rattle.common_offers.proofs.Silent.{all_are_deaf}
 use Rattle.common_offers.proofs.Moving.{all_move_alike}
 use Rattle.run_state.specs.declared.seat.Seat.{Seat}
 use Rattle.run_state.specs.declared.body.Body.{Body}
 use Rattle.run_state.specs.Standing.{stand_of, StandsIn, shows, edges_at, seq_of}
-use Rattle.run_search.specs.declared.common.Asked.{Asked}
 use Rattle.run_search.specs.declared.round.Round.{Round}
 use Rattle.run_search.specs.Kept.{Extends}
-use Rattle.run_search.specs.Round.{round_at}
-use Rattle.run_search.specs.Together.{IsCommonSeat, shared_by, IsAsked}
+use Rattle.run_search.specs.Round.{round_at, round_behind}
+use Rattle.run_search.specs.Together.{IsCommonSeat, StandThere}
 use Rattle.run_state.proofs.Finding.{opens_at, held}
+use Rattle.run_state.proofs.Placing.{seat_stands}
 use Rattle.run_search.proofs.Placing.{moves_in, moves_closed, pairs_in}
 use Rattle.run_search.proofs.Waiting.{demands_in, demands_closed}
 
@@ -57,32 +57,88 @@ closed_seat s x e = record {
     nothing : (m : ℕ) (t : Bool) → m + 1 < length s.stands → moves_at s m t (stand_of s.program x) ≡ []
     nothing m t l = moves_closed s m t (stand_of s.program x) e ∙ ap (λ (b : Bool). only_if b (Death m)) (not_youngest m (length s.stands) l)
 
--- ---- the moves of the last that was asked
+-- ---- those from a process on
 
--- they lie where they lay, when more are added
-pub still_shared : (r : Round) (z : Asked) (ms more : List Move) → IsAsked r z ms → IsAsked r z (ms ++ more)
-still_shared r z ms more h = record {
-  within = let l = length-append ms more in omega (arith, h.within, l);
-  moves = λ x common at m l. h.moves x common at m l ∙ ap (λ (xs : List Move). map (by_process m) (drop z.first xs)) (sym (take-append-le z.end ms more h.within));
-}
+-- those of the process that stands there come first
+next_behind : (r : Round) (x : Seat) (n : ℕ) → slice_get r.live.now.state.stands n ≡ Some (stand_of r.live.now.state.program x) → round_behind r n ≡ round_at r n x ++ round_behind r (n + 1)
+next_behind r x n at =
+    ap (λ (ys : List Stand). each (λ p y. moves_at r.live.now.state p r.timeout y) n ys) (opens_at r.live.now.state.stands n (stand_of r.live.now.state.program x) at)
 
-pub added_shared : (r : Round) (z : Asked) (ms old more : List Move) → ms ≡ old ++ more → IsAsked r z old → IsAsked r z ms
-added_shared r z ms old more e h = subst (IsAsked r z) (sym e) (still_shared r z old more h)
+-- one process more
+pub one_behind : (r : Round) (x : Seat) (n : ℕ) (new mid all : List Move) → slice_get r.live.now.state.stands n ≡ Some (stand_of r.live.now.state.program x)
+    → new ≡ mid ++ round_at r n x → mid ++ round_behind r n ≡ all → new ++ round_behind r (n + 1) ≡ all
+one_behind r x n new mid all at e same =
+    ap (λ (ms : List Move). ms ++ round_behind r (n + 1)) e
+    ∙ (append_assoc mid (round_at r n x) (round_behind r (n + 1))
+    ∙ (ap (λ (ms : List Move). mid ++ ms) (sym (next_behind r x n at)) ∙ same))
 
--- one that is asked where each has the same
-pub heeded : (r : Round) (z : Asked) (ms : List Move) (p : ℕ) (x : Seat) → z.end ≡ length ms → drop z.first ms ≡ round_at r p x → z.seat ≡ Some x → p + 1 < length r.live.now.state.stands → (z.is_common ≡ true → IsCommonSeat r.live.now.state x) → IsAsked r z ms
-heeded r z ms p x end moves seat next common = record {
-  within = omega (arith, end);
-  moves = λ y c at m l.
-      let same : x ≡ y = some_same x y (sym seat ∙ at) in
-      let all : take z.end ms ≡ ms = ap (λ (n : ℕ). take n ms) end ∙ take-length ms in
-      subst (λ (y : Seat). round_at r m y ≡ shared_by m z ms) same
-      ((common c).moves r.timeout p m next l
-      ∙ ap (map (by_process m)) (sym (ap (drop z.first) all ∙ moves)));
-}
+-- those who have no moves are passed over
+none_behind : (r : Round) (x : Seat) (first n : ℕ) → StandThere r.live.now.state x first (first + n) → ((m : ℕ) → first ≤ m → m < first + n → round_at r m x ≡ []) → round_behind r first ≡ round_behind r (first + n)
+none_behind r x first zero there none = let e : first ≡ first + 0 = omega arith in ap (λ (k : ℕ). round_behind r k) e
+none_behind r x first (suc n) there none =
+    let e : first + n + 1 ≡ first + suc n = omega arith in
+    let l : first ≤ first + n = omega arith in
+    let k : first + n < first + suc n = omega arith in
+    none_behind r x first n (λ m a b. let c : m < first + suc n = omega (arith, b) in there m a c) (λ m a b. let c : m < first + suc n = omega (arith, b) in none m a c)
+    ∙ (next_behind r x (first + n) (there (first + n) l k)
+    ∙ (ap (λ (ms : List Move). ms ++ round_behind r (first + n + 1)) (none (first + n) l k) ∙ ap (λ (k : ℕ). round_behind r k) e))
+
+-- where one was asked and has none, and each stands there of whom one can be asked for all
+pub all_silent : (r : Round) (x : Seat) (p end begin : ℕ) (ms : List Move) → IsCommonSeat r.live.now.state x → p < end → end < length r.live.now.state.stands → StandThere r.live.now.state x (p + 1) end
+    → drop begin ms ≡ round_at r p x → begin ≡ length ms → round_behind r end ≡ round_behind r (p + 1)
+all_silent r x p end begin ms common order older there moves all =
+    let e : p + 1 + (end - (p + 1)) ≡ end = omega (arith, order) in
+    let l : p + 1 < length r.live.now.state.stands = omega (arith, order, older) in
+    let over : length ms ≤ begin = omega (arith, all) in
+    let none : round_at r p x ≡ [] = sym moves ∙ drop_all begin ms over in
+    sym (none_behind r x (p + 1) (end - (p + 1))
+    (λ m a b. let c : m < end = omega (arith, b, e) in there m a c)
+    (λ m a b.
+    let c : m + 1 < length r.live.now.state.stands = omega (arith, b, e, older) in
+    common.moves r.timeout p m l c ∙ ap (map (by_process m)) none)
+    ∙ ap (λ (k : ℕ). round_behind r k) e)
+
+-- what lay at the front lies there still
+front_of : (old new : List Move) → Extends new old → take (length old) new ≡ old
+front_of old new h =
+    let l : length old ≤ length old = omega arith in
+    ap (take (length old)) h.is ∙ (take-append-le (length old) old h.more l ∙ take-length old)
+
+-- one process more has the moves of the one that was asked
+pub one_shared : (r : Round) (x : Seat) (p n begin behind : ℕ) (new mid old all : List Move) → IsCommonSeat r.live.now.state x → p + 1 < length r.live.now.state.stands → n + 1 < length r.live.now.state.stands
+    → slice_get r.live.now.state.stands n ≡ Some (stand_of r.live.now.state.program x) → drop begin old ≡ round_at r p x → behind ≡ length old → Extends mid old
+    → new ≡ mid ++ map (by_process n) (drop begin (take behind mid)) → mid ++ round_behind r n ≡ all → new ++ round_behind r (n + 1) ≡ all
+one_shared r x p n begin behind new mid old all common l k at moves is ext e same =
+    let front : take behind mid ≡ old = ap (λ (i : ℕ). take i mid) is ∙ front_of old mid ext in
+    one_behind r x n new mid all at
+    (e
+    ∙ ap (λ (ms : List Move). mid ++ ms)
+    (ap (λ (ms : List Move). map (by_process n) (drop begin ms)) front
+    ∙ (ap (map (by_process n)) moves ∙ sym (common.moves r.timeout p n l k))))
+    same
+
+-- behind the last nobody is left
+pub nobody_behind : (r : Round) (n : ℕ) → length r.live.now.state.stands ≤ n → round_behind r n ≡ []
+nobody_behind r n l = ap (λ (ys : List Stand). each (λ p y. moves_at r.live.now.state p r.timeout y) n ys) (drop_all n r.live.now.state.stands l)
+
+-- the process at a place stands where its seat is
+pub seat_there : (s : State) (xs : List Seat) (p : ℕ) (d : Seat) → map (stand_of s.program) xs ≡ s.stands → p < length s.stands → slice_get s.stands p ≡ Some (stand_of s.program (get_or xs p d))
+seat_there s xs p d e l =
+    let many : length s.stands ≡ length xs = ap length (sym e) ∙ length-map xs (stand_of s.program) in
+    let k : p < length xs = omega (arith, l, many) in
+    seat_stands s.program xs s.stands p (get_or xs p d) e (held xs p d k)
+
+-- one stands there alone
+pub only_there : (s : State) (x : Seat) (p : ℕ) → slice_get s.stands p ≡ Some (stand_of s.program x) → StandThere s x p (p + 1)
+only_there s x p at m a b = let is : m ≡ p = omega (arith, a, b) in ap (slice_get s.stands) is ∙ at
+
+-- one more that stands there
+pub one_there : (s : State) (x : Seat) (first end : ℕ) → slice_get s.stands end ≡ Some (stand_of s.program x) → StandThere s x first end → StandThere s x first (end + 1)
+one_there s x first end at there m a b = by_place (nat_eq m end) refl
   where
-    some_same : (a b : Seat) → Some a ≡ Some b → a ≡ b
-    some_same a b e = cc
+    by_place : (same : Bool) → nat_eq m end ≡ same → slice_get s.stands m ≡ Some (stand_of s.program x)
+    by_place true e = let is : m ≡ end = grind (arith, e) in ap (slice_get s.stands) is ∙ at
+    by_place false e = let c : m < end = grind (arith, b, e) in there m a c
 
 -- ---- moves that are copied
 

@@ -1,5 +1,5 @@
 -- A round of the search: the moves that it finds.
-use Rattle.std.specs.Prelude.{ℕ, Bool, false, if◌then◌else◌, List, [], ◌∷◌, ℤ, length, map, Option, Result}
+use Rattle.std.specs.Prelude.{ℕ, Bool, false, if◌then◌else◌, List, [], ◌∷◌, ℤ, length, map, drop, Option, Result}
 use Rattle.diagnostics.specs.declared.fault.Fault.{Fault}
 use Rattle.pml_program.specs.declared.expr.Expr.{Expr}
 use Rattle.pml_program.specs.declared.expr.Target.{Target}
@@ -15,7 +15,7 @@ use Rattle.run_state.specs.declared.seat.Seat.{Seat}
 use Rattle.run_search.specs.declared.round.Round.{Round}
 use Rattle.run_search.specs.declared.tier.Tier.{Tier}
 use Rattle.run_state.specs.Standing.{stand_of, shows, offers_at, seq_of}
-use Rattle.promela_run.specs.Moves.{Message, Named, named, or_fault, can_send, can_alone, message_on, is_else, last, pairs, plain_moves, else_moves, moves_on, moves_at, moves_under}
+use Rattle.promela_run.specs.Moves.{Message, Named, named, or_fault, can_send, can_alone, message_on, is_else, each, last, pairs, plain_moves, else_moves, moves_on, moves_at, moves_under}
 use Rattle.run_search.specs.Viewed.{moves_for}
 use Rattle.run_search.specs.Listeners.{AreKnown}
 use Rattle.promela_run.specs.World.{Running}
@@ -70,6 +70,10 @@ round_down r k p n = last (moves_on r.live.now.state p r.timeout (seq_of k)) 0 (
 -- of a process
 abbrev pub round_at : Round → ℕ → Seat → List Move
 round_at r p x = moves_at r.live.now.state p r.timeout (stand_of r.live.now.state.program x)
+
+-- of the processes from this one on
+abbrev pub round_behind : Round → ℕ → List Move
+round_behind r n = let s = r.live.now.state in each (λ p y. moves_at s p r.timeout y) n (drop n s.stands)
 
 -- of all
 abbrev pub round_under : Round → List Move

@@ -1,17 +1,12 @@
 -- Seats at which every process can take the same, so that one is asked for all.
-use Rattle.std.specs.Prelude.{◌≡◌, ◌+◌, ◌<◌, ◌≤◌, ℕ, Bool, true, List, length, map, take, drop, Some}
-use Rattle.promela_run.specs.declared.moves.Move.{Move}
+use Rattle.std.specs.Prelude.{◌≡◌, ◌+◌, ◌<◌, ◌≤◌, ℕ, Bool, length, map, Some, slice_get}
 use Rattle.promela_run.specs.State.{State}
 use Rattle.promela_run.specs.Moves.{moves_at}
 use Rattle.common_offers.specs.Offers.{by_process}
 use Rattle.run_state.specs.declared.seat.Seat.{Seat}
 use Rattle.run_state.specs.Standing.{stand_of}
 use Rattle.run_search.specs.declared.demands.Demand.{Demand}
-use Rattle.run_search.specs.declared.round.Round.{Round}
-use Rattle.run_search.specs.declared.common.Asked.{Asked}
-use Rattle.run_search.specs.declared.common.Waiting.{Waiting}
 use Rattle.run_search.specs.Demands.{DemandsFor}
-use Rattle.run_search.specs.Round.{round_at}
 
 -- Each process that stands here has the moves of another, by its own offers, but the youngest, who may die; and where one waits for
 -- some messages alone, each does.
@@ -19,15 +14,6 @@ pub record IsCommonSeat (s : State) (x : Seat) : Type 0 where
   pub moves : (t : Bool) (p m : ℕ) → p + 1 < length s.stands → m + 1 < length s.stands → moves_at s m t (stand_of s.program x) ≡ map (by_process m) (moves_at s p t (stand_of s.program x))
   pub demands : (t : Bool) (p j : ℕ) (w : Demand) → DemandsFor s t p (stand_of s.program x) w → DemandsFor s t j (stand_of s.program x) w
 
--- the moves that lie where the last was asked, by process m
-abbrev pub shared_by : ℕ → Asked → List Move → List Move
-shared_by m z ms = map (by_process m) (drop z.first (take z.end ms))
-
--- They are in the list; and each process has them that stands where they are common, but the youngest.
-pub record IsAsked (r : Round) (z : Asked) (ms : List Move) : Type 0 where
-  pub within : z.end ≤ length ms
-  pub moves : (x : Seat) → z.is_common ≡ true → z.seat ≡ Some x → (m : ℕ) → m + 1 < length r.live.now.state.stands → round_at r m x ≡ shared_by m z ms
-
--- each process that stands there waits for these messages alone
-abbrev pub IsWaiting : State → Bool → Waiting → Type 0
-IsWaiting s t z = (x : Seat) → z.is_common ≡ true → z.asked ≡ Some x → (j : ℕ) → DemandsFor s t j (stand_of s.program x) z.demand
+-- the processes from the first on, up to the other, stand there
+abbrev pub StandThere : State → Seat → ℕ → ℕ → Type 0
+StandThere s x first end = (m : ℕ) → first ≤ m → m < end → slice_get s.stands m ≡ Some (stand_of s.program x)

@@ -1,15 +1,11 @@
 //! Seats at which every process can take the same, so that of many who stand there one is asked.
 
-ghost use Rattle.std.specs.Prelude.{◌≡◌, ◌+◌, ◌++◌, ◌<◌, ◌≤◌, true, false, IfSome, OnOk, Some, ℕ, List, length, map, take, drop};
+ghost use Rattle.std.specs.Prelude.{◌≡◌, ◌+◌, ◌++◌, ◌<◌, ◌≤◌, true, OnOk, length, map, take, drop};
 ghost use Rattle.common_offers.specs.Offers.{AreCommonOffers, by_process};
-ghost use Rattle.run_state.specs.Standing.{IsBody, shows, stand_of};
+ghost use Rattle.run_state.specs.Standing.{IsBody, shows};
 ghost use Rattle.run_search.specs.Kept.{Extends};
-ghost use Rattle.run_search.specs.Together.{IsCommonSeat, IsAsked, shared_by, IsWaiting};
-ghost use Rattle.run_search.specs.Demands.{DemandsFor};
-ghost use Rattle.run_search.specs.Round.{round_at};
+ghost use Rattle.run_search.specs.Together.{IsCommonSeat, StandThere};
 
-use crate::demands::Demand;
-use crate::round::Round;
 use common_offers::statement::is_common_offer;
 use pml_flow::edge::Edge;
 use promela_run::moves::{Move, Pick};
@@ -34,7 +30,7 @@ fn is_common_level(body: &Body<'_, '_, '_>, edges: &[Edge]) -> bool
 /// Whether of the processes that stand there one can be asked for all, as at a closing brace. It may say no where that is so.
 #[inline(never)]
 #[tactic(auto, using(crate::proofs::Together::common_seat, crate::proofs::Together::closed_seat))]
-fn is_common_seat(live: &Live<'_, '_>, seat: Seat) -> bool
+pub(crate) fn is_common_seat(live: &Live<'_, '_>, seat: Seat) -> bool
     ensures { result ≡ true → IsCommonSeat live.now.state seat }
 {
     let Some(body) = live.standing(seat) else {
@@ -54,93 +50,27 @@ fn is_same(one: Seat, other: Seat) -> bool
     one.sort == other.sort && one.node == other.node
 }
 
-/// Whether it was this seat that was asked last.
+/// The next process that stands elsewhere, or the youngest, of whom nothing is known: it may die.
 #[inline(always)]
-fn was_asked(asked: Option<Seat>, seat: Seat) -> bool
-    ensures { result ≡ true → asked ≡ Some seat }
+pub(crate) fn next_elsewhere(live: &Live<'_, '_>, process: usize, seat: Seat) -> usize
+    requires there { StandThere live.now.state seat process (process + 1) }
+    requires lives { process < length live.now.state.stands }
+    ensures behind { process < result }
+    ensures within { result ≤ length live.now.state.stands }
+    ensures there { StandThere live.now.state seat process result }
+    ensures older { process + 1 < result → result < length live.now.state.stands }
 {
-    match asked {
-        Some(last) => is_same(last, seat),
-        None => false,
-    }
-}
-
-/// Whether another process lives behind this one.
-#[inline(always)]
-fn has_next(live: &Live<'_, '_>, process: usize) -> bool
-    requires { process < length live.now.state.stands }
-    ensures { result ≡ true → process + 1 < length live.now.state.stands }
-{
-    let count = live.process_count();
-    process + 1 < count
-}
-
-/// Whether the process behind this one lives and stands there.
-#[inline(always)]
-fn is_next_there(live: &Live<'_, '_>, process: usize, seat: Seat) -> bool
-    requires { process < length live.now.state.stands }
-    ensures { result ≡ true → process + 1 < length live.now.state.stands }
-{
-    has_next(live, process) && is_same(live.seats()[process + 1], seat)
-}
-
-/// The last seat that was asked in a round, where its moves lie in the list, and whether each who stands there has the same but, maybe,
-/// the youngest.
-#[derive(Clone, Copy)]
-pub(crate) struct Asked {
-    pub seat: Option<Seat>,
-    pub is_common: bool,
-    pub first: usize,
-    pub end: usize,
-}
-
-impl Asked {
-    /// Nothing is known.
-    #[inline(always)]
-    pub(crate) fn nobody() -> Asked
-        ensures common { result.is_common ≡ false }
-        ensures end { result.end ≡ 0 }
-    {
-        Asked {
-            seat: None,
-            is_common: false,
-            first: 0,
-            end: 0,
+    let seats = live.seats();
+    let youngest = seats.len() - 1;
+    for at in process + 1..youngest {
+        if !is_same(seats[at], seat) {
+            return at;
         }
     }
-
-    /// Whether the process is known to have the same moves there. Of the youngest nothing is known: it may die there.
-    #[inline(always)]
-    pub(crate) fn is_at(&self, round: &Round<'_, '_, '_>, process: usize, seat: Seat) -> bool
-        requires { process < length round.now.live.now.state.stands }
-        ensures { result ≡ true → (ms : List Move) → IsAsked round.now self.now ms → round_at round.now process seat ≡ shared_by process self.now ms }
-    {
-        self.is_common && was_asked(self.seat, seat) && has_next(round.live, process)
-    }
-
-    /// Heeds the moves of a process where it stands, which lie behind the first so many. The seat is asked for all only where the next
-    /// stands there too.
-    #[inline(always)]
-    pub(crate) fn heed(
-        &mut self,
-        round: &Round<'_, '_, '_>,
-        process: usize,
-        seat: Seat,
-        before: usize,
-        moves: &[Move],
-    )
-        requires there { process < length round.now.live.now.state.stands }
-        requires known { IsAsked round.now self.old moves.now }
-        requires moves { drop before moves.now ≡ round_at round.now process seat }
-        ensures { IsAsked round.now self.new moves.now }
-    {
-        if was_asked(self.seat, seat) || !is_next_there(round.live, process, seat) {
-            return;
-        }
-        self.seat = Some(seat);
-        self.is_common = is_common_seat(round.live, seat);
-        self.first = before;
-        self.end = moves.len();
+    if process < youngest {
+        youngest
+    } else {
+        process + 1
     }
 }
 
@@ -171,61 +101,4 @@ pub(crate) fn add_copies(
         moves.push(copied(moves[at], process))?;
     }
     Ok(())
-}
-
-/// The last seat that was asked what its process waits for, whether each who stands there waits for that, and what it is.
-#[derive(Clone, Copy)]
-pub(crate) struct Waiting {
-    pub asked: Option<Seat>,
-    pub is_common: bool,
-    pub demand: Demand,
-}
-
-impl Waiting {
-    /// Nothing is known.
-    #[inline(always)]
-    pub(crate) fn unknown() -> Waiting
-        ensures { result.is_common ≡ false }
-    {
-        Waiting {
-            asked: None,
-            is_common: false,
-            demand: Demand::Anything,
-        }
-    }
-
-    /// What each process waits for that stands there, where it is known.
-    #[inline(always)]
-    pub(crate) fn at(&self, live: &Live<'_, '_>, timeout: bool, seat: Seat) -> Option<Demand>
-        requires { IsWaiting live.now.state timeout self.now }
-        ensures { IfSome result (λ w. (j : ℕ) → DemandsFor live.now.state timeout j (stand_of live.now.state.program seat) w) }
-    {
-        if self.is_common && was_asked(self.asked, seat) {
-            return Some(self.demand);
-        }
-        None
-    }
-
-    /// Heeds what a process waits for where it stands. The seat is asked for all only where the next stands there too.
-    #[inline(always)]
-    pub(crate) fn heed(
-        &mut self,
-        live: &Live<'_, '_>,
-        timeout: bool,
-        process: usize,
-        seat: Seat,
-        demand: Demand,
-    )
-        requires there { process < length live.now.state.stands }
-        requires known { IsWaiting live.now.state timeout self.old }
-        requires demand { DemandsFor live.now.state timeout process (stand_of live.now.state.program seat) demand }
-        ensures { IsWaiting live.now.state timeout self.new }
-    {
-        if was_asked(self.asked, seat) || !is_next_there(live, process, seat) {
-            return;
-        }
-        self.asked = Some(seat);
-        self.is_common = is_common_seat(live, seat);
-        self.demand = demand;
-    }
 }

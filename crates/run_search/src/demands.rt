@@ -1,14 +1,14 @@
 //! What processes wait for: a send then asks those alone that may receive its message.
 
-ghost use Rattle.std.specs.Prelude.{◌≡◌, ◌<◌, false, IfOk, length, map, slice_get};
+ghost use Rattle.std.specs.Prelude.{◌≡◌, ◌+◌, ◌<◌, ◌≤◌, false, IfOk, OnOk, length, map, slice_get};
 ghost use Rattle.std.specs.Option.{option_copied};
 ghost use Rattle.pml_value.specs.Seen.{seen};
 ghost use Rattle.run_state.specs.Standing.{stand_of, IsBody, shows, offers_at};
 ghost use Rattle.promela_run.specs.Moves.{Message as Sent, accepts};
-ghost use Rattle.run_search.specs.Together.{IsWaiting};
+ghost use Rattle.run_search.specs.Together.{StandThere};
 ghost use Rattle.run_search.specs.Demands.{asks, may_take, may_at, does_accept, DemandsOn, DemandsDown, DemandsFor, AreDemands};
 
-use crate::common::Waiting;
+use crate::common::{is_common_seat, next_elsewhere};
 use crate::executable::named;
 use crate::interest::Interest;
 use crate::lent::lent;
@@ -202,26 +202,62 @@ fn demand_of(live: &Live<'_, '_>, j: usize, timeout: bool, seat: Seat) -> Demand
     }
 }
 
-/// What a process may receive, where it may be known of all who stand there.
-#[inline(always)]
-fn demand_known(
+/// Adds what the processes behind one that was asked may receive, up to another, who stand where it does.
+#[inline(never)]
+fn add_demands_behind(
     live: &Live<'_, '_>,
-    j: usize,
     timeout: bool,
+    asked: usize,
+    end: usize,
     seat: Seat,
-    waiting: &Waiting,
-) -> Demand
-    requires there { j < length live.now.state.stands }
-    requires known { IsWaiting live.now.state timeout waiting.now }
-    ensures { DemandsFor live.now.state timeout j (stand_of live.now.state.program seat) result }
+    demands: &mut Vec<Demand>,
+) -> Result<(), AllocError>
+    requires order { asked < end }
+    requires within { end ≤ length live.now.state.stands }
+    requires there { StandThere live.now.state seat asked end }
+    requires known { AreDemands live.now.state timeout demands.old.items }
+    requires many { length demands.old.items ≡ asked + 1 }
+    ensures demands { OnOk result (AreDemands live.now.state timeout demands.new.items) }
+    ensures many { OnOk result (length demands.new.items ≡ end) }
 {
-    match waiting.at(live, timeout, seat) {
-        Some(demand) => demand,
-        None => demand_of(live, j, timeout, seat),
+    let is_common = is_common_seat(live, seat);
+    let first = demands[asked];
+    for j in asked + 1..end {
+        let demand = if is_common {
+            first
+        } else {
+            demand_of(live, j, timeout, seat)
+        };
+        demands.push(demand)?;
     }
+    Ok(())
 }
 
-/// What each process may receive. Of many who stand at a seat where all wait for the same one is asked.
+/// Adds what a process and those behind it may receive who stand where it does: who comes next.
+#[inline(always)]
+fn add_demands_of_run(
+    live: &Live<'_, '_>,
+    timeout: bool,
+    j: usize,
+    demands: &mut Vec<Demand>,
+) -> Result<usize, AllocError>
+    requires there { j < length live.now.state.stands }
+    requires known { AreDemands live.now.state timeout demands.old.items }
+    requires many { length demands.old.items ≡ j }
+    ensures demands { OnOk result (AreDemands live.now.state timeout demands.new.items) }
+    ensures many { IfOk result (λ end. length demands.new.items ≡ end) }
+    ensures on { IfOk result (λ end. (j < end) × (end ≤ length live.now.state.stands)) }
+{
+    let seat = live.seats()[j];
+    demands.push(demand_of(live, j, timeout, seat))?;
+    let end = next_elsewhere(live, j, seat);
+    if j + 1 < end {
+        add_demands_behind(live, timeout, j, end, seat, demands)?;
+    }
+    Ok(end)
+}
+
+/// What each process may receive. Of those beside one another at a seat where all wait for the same one is asked.
 pub(crate) fn all_demands(
     alloc: Global,
     live: &Live<'_, '_>,
@@ -230,13 +266,11 @@ pub(crate) fn all_demands(
     ensures demands { IfOk result (λ v. AreDemands live.now.state timeout v.items) }
     ensures many { IfOk result (λ v. length v.items ≡ length live.now.state.stands) }
 {
-    let seats = live.seats();
-    let mut demands = Vec::with_capacity(alloc, seats.len())?;
-    let mut waiting = Waiting::unknown();
-    for j in 0..seats.len() {
-        let demand = demand_known(live, j, timeout, seats[j], &waiting);
-        waiting.heed(live, timeout, j, seats[j], demand);
-        demands.push(demand)?;
+    let count = live.process_count();
+    let mut demands = Vec::with_capacity(alloc, count)?;
+    let mut j = 0;
+    while j < count {
+        j = add_demands_of_run(live, timeout, j, &mut demands)?;
     }
     Ok(demands)
 }

@@ -16,5 +16,6 @@ pub mod picked;
 pub mod process;
 pub mod rendezvous;
 pub mod round;
+pub mod runs;
 pub mod search;
 pub mod tier;

@@ -8,16 +8,15 @@ ghost use Rattle.run_search.specs.Kept.{Extends};
 ghost use Rattle.run_state.specs.Standing.{IsBody};
 ghost use Rattle.promela_run.specs.Moves.{moves_held, moves as all_moves};
 ghost use Rattle.run_search.specs.First.{AreFirst, moves_from, moves_of_level};
-ghost use Rattle.run_search.specs.Together.{IsAsked};
-ghost use Rattle.run_search.specs.Round.{IsKnown, round_at, round_under, live_under};
+ghost use Rattle.run_search.specs.Round.{IsKnown, round_under, live_under};
 
-use crate::common::{Asked, add_copies};
 use crate::demands::{ENOUGH_PROCESSES, all_demands, are_worth_knowing};
 use crate::foremost::first_asked;
 use crate::lent::lent;
 use crate::listeners::{NOBODY, all_listeners};
 use crate::process::{add_moves_at, add_moves_on};
 use crate::round::{Round, is_added_at_once};
+use crate::runs::add_moves_of_many;
 use crate::tier::Tier;
 use pml_flow::edge::Edge;
 use promela_run::moves::Move;
@@ -38,46 +37,6 @@ fn add_moves_of_all(round: &Round<'_, '_, '_>, moves: &mut Vec<Move>) -> Result<
     let seats = round.live.seats();
     for process in 0..seats.len() {
         add_moves_at(round, process, seats[process], moves)?;
-    }
-    Ok(())
-}
-
-/// Adds the moves of a process, and heeds them: those of the last that was asked, where it stands there and they are known to be the same.
-#[inline(always)]
-fn add_moves_heeding(
-    round: &Round<'_, '_, '_>,
-    process: usize,
-    seat: Seat,
-    asked: &mut Asked,
-    moves: &mut Vec<Move>,
-) -> Result<(), AllocError>
-    requires known { IsKnown round.now }
-    requires there { process < length round.now.live.now.state.stands }
-    requires asked { IsAsked round.now asked.old moves.old.items }
-    ensures added { OnOk result (moves.new.items ≡ moves.old.items ++ round_at round.now process seat) }
-    ensures kept { Extends moves.new.items moves.old.items }
-    ensures asked { OnOk result (IsAsked round.now asked.new moves.new.items) }
-{
-    if asked.is_at(round, process, seat) {
-        return add_copies(process, asked.first, asked.end, moves);
-    }
-    let before = moves.len();
-    add_moves_at(round, process, seat, moves)?;
-    asked.heed(round, process, seat, before, moves.as_slice());
-    Ok(())
-}
-
-/// Adds the moves of all processes, where many live: of those who stand at one seat one is asked, if it may answer for all.
-#[inline(never)]
-fn add_moves_of_many(round: &Round<'_, '_, '_>, moves: &mut Vec<Move>) -> Result<(), AllocError>
-    requires { IsKnown round.now }
-    ensures added { OnOk result (moves.new.items ≡ moves.old.items ++ round_under round.now) }
-    ensures kept { Extends moves.new.items moves.old.items }
-{
-    let seats = round.live.seats();
-    let mut asked = Asked::nobody();
-    for process in 0..seats.len() {
-        add_moves_heeding(round, process, seats[process], &mut asked, moves)?;
     }
     Ok(())
 }
