@@ -20,7 +20,7 @@ use Rattle.run_search.specs.Picked.{IsPicked}
 use Rattle.pml_flow.specs.Points.{point_at}
 use Rattle.view_cells.specs.Processes.{line_in, line_by}
 use Rattle.view_waits.specs.declared.transfer.Does.TheVariants as does
-use Rattle.view_json.specs.Printed.{Printed, Writes}
+use Rattle.view_tokens.specs.Printed.{Printed, Writes}
 use Rattle.view_json.specs.Objects.{detail}
 use Rattle.view_json.specs.Lines.{dealing}
 use Rattle.view_json.specs.declared.list.Listing.{Listing}
@@ -43,7 +43,7 @@ next_is s k x b e there offer is =
 
 -- ---- where memory is refused
 
-no_effect : Effect
+pub no_effect : Effect
 no_effect = record { deals = record { does = does.Statement; channel = 0; message = [] }; words = [] }
 
 refused_so : (ts : List Token) (a c : Printed) → c.refused ≡ true → Writes a c ts

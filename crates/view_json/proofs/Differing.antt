@@ -12,7 +12,7 @@ use Rattle.promela_run.specs.declared.moves.Move.{Move}
 use Rattle.view_waits.specs.Waits.{waits as all_waits}
 use Rattle.view_text.specs.Written.{Written, Adds}
 use Rattle.view_text.proofs.Writing.{chained}
-use Rattle.view_json.specs.Printed.{Printed, Writes}
+use Rattle.view_tokens.specs.Printed.{Printed, Writes}
 use Rattle.view_json.specs.Objects.{member, array, cells, frame_cells, channel_heading, contents, channel, heading, waits_with, standing}
 use Rattle.view_json.proofs.Printable.{none_printable, one_printable, both_printable}
 use Rattle.view_json.specs.declared.list.Listing.{Listing}

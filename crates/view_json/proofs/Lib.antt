@@ -1,4 +1,3 @@
-pub mod Strings
 pub mod Writing
 pub mod Waits
 pub mod Listed
@@ -8,6 +7,7 @@ pub mod Run
 pub mod Printable
 pub mod Fronts
 pub mod Choices
+pub mod Alike
 pub mod Ended
 pub mod Asked
 pub mod Counting

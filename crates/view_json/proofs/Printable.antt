@@ -1,9 +1,7 @@
 -- What is written can be read back.
-use Rattle.std.proofs.Common.{◌≡◌, ◌∙◌, sym, subst, ℕ, List, [], ◌∷◌, ◌++◌, Result, Ok, Err}
+use Rattle.std.proofs.Common.{ℕ, List, [], ◌∷◌, ◌++◌}
 use Rattle.json.specs.Token.{Token, begin_array, end_array, key}
 use Rattle.json.specs.Print.{IsPrintable, ArePrintable}
-use Rattle.json.specs.Written.{Written, Writes}
-use Rattle.json.proofs.Printed.Tokens.{ArePrintable-push}
 
 pub none_printable : ArePrintable []
 unfolding ArePrintable
@@ -17,13 +15,6 @@ pub both_printable : (xs ys : List Token) → ArePrintable xs → ArePrintable y
 unfolding ArePrintable
 both_printable [] ys none all = all
 both_printable (x ∷ xs) ys all more = (all.0, both_printable xs ys all.1 more)
-
--- a writer of tokens that begins at its first byte goes on so
-pub kept : {E : Type 0} (r : Result (Unit {0}) E) (old new : Written) (t : Token) → Writes r old new t → IsPrintable t
-    → (old.before ≡ []) × ArePrintable old.tokens → (new.before ≡ []) × ArePrintable new.tokens
-kept (Ok u) old new t w is all =
-    (w.room.0 ∙ all.0, subst ArePrintable (sym w.ok) (ArePrintable-push old.tokens t all.1 is))
-kept (Err e) old new t w is all = (w.room.0 ∙ all.0, subst ArePrintable (sym w.err) all.1)
 
 -- an array as a member
 pub array_printable : (name : List ℕ) (ts : List Token) → ArePrintable ts → ArePrintable (key name ∷ begin_array ∷ (ts ++ end_array ∷ []))

@@ -10,7 +10,7 @@ use Rattle.run_values.specs.declared.changed.Change.{Change}
 use Rattle.promela_run.specs.declared.moves.Move.{Move}
 use Rattle.promela_run.specs.State.{State}
 use Rattle.view_text.specs.Written.{Written, Adds}
-use Rattle.view_json.specs.Printed.{Printed, Writes}
+use Rattle.view_tokens.specs.Printed.{Printed, Writes}
 use Rattle.view_json.specs.Objects.{member, cells, frame_cells}
 use Rattle.view_json.specs.Lines.{line, ReadsBack}
 use Rattle.view_json.specs.Shown.{Shown, Told, channels_from, processes_from, new_ones, changed_ones, has_changes, changed_cell, changed_cells, listed}

@@ -6,7 +6,7 @@ use Rattle.std.proofs.Math.Seq.{take-suc}
 use Rattle.json.specs.Token.{Token}
 use Rattle.promela_run.specs.State.{State}
 use Rattle.view_waits.specs.declared.waits.Wait.{Wait}
-use Rattle.view_json.specs.Printed.{Printed, Writes}
+use Rattle.view_tokens.specs.Printed.{Printed, Writes}
 use Rattle.view_json.specs.Objects.{wait, waits_with, AddsWaits}
 use Rattle.view_json.proofs.Writing.{chain, none}
 

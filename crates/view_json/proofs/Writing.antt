@@ -3,7 +3,7 @@ use Rattle.std.proofs.Common.{◌≡◌, ◌∙◌, ap, sym, refl, Bool, true, f
 use Rattle.std.proofs.lemmas.Bool.{true≢false}
 use Rattle.json.specs.Token.{Token}
 use Rattle.view_text.specs.Written.{Written, Adds}
-use Rattle.view_json.specs.Printed.{Printed, Stays, Writes}
+use Rattle.view_tokens.specs.Printed.{Printed, Stays, Writes}
 use Rattle.view_json.specs.Lines.{line}
 
 not_before : (b c : Printed) → Stays b c → c.refused ≡ false → b.refused ≡ false

@@ -9,7 +9,7 @@ use Rattle.promela_run.specs.declared.moves.Pick.{Pick}
 use Rattle.promela_run.specs.declared.moves.Move.{Move}
 use Rattle.promela_run.specs.declared.moves.Move.TheVariants.{Death, Alone, Pair}
 use Rattle.view_cells.specs.Processes.{line_in}
-use Rattle.view_json.specs.Printed.{Printed, Writes}
+use Rattle.view_tokens.specs.Printed.{Printed, Writes}
 use Rattle.view_json.specs.Objects.{count, member, detail, object, array}
 use Rattle.view_json.specs.Lines.{mover, picked, Dealing, dealing}
 use Rattle.view_json.specs.declared.list.Listing.{Listing}

@@ -1,8 +1,10 @@
-pub mod Printed
 pub mod Objects
 pub mod Lines
+pub mod Texts
 pub mod Shown
 pub mod Choices
+pub mod Known
+pub mod Before
 pub mod Steps
 pub mod Added
 pub mod Run

@@ -20,7 +20,7 @@ use Rattle.view_waits.specs.declared.waits.Wait.{Wait}
 use Rattle.view_waits.specs.Because.{code}
 use Rattle.view_waits.specs.Offers.{offered_line, offered_text}
 use Rattle.view_waits.specs.Waits.{takes_part, waits}
-use Rattle.view_json.specs.Printed.{Printed, Writes, string_of}
+use Rattle.view_tokens.specs.Printed.{Printed, Writes, string_of}
 
 -- ---- forms
 

@@ -8,7 +8,7 @@ ghost use Rattle.profile.specs.declared.TheConstants.{MOST_PROCESSES};
 ghost use Rattle.promela_run.specs.Moves.{moves as all_moves};
 ghost use Rattle.view_waits.specs.Waits.{waits};
 ghost use Rattle.view_text.specs.Written.{Adds};
-ghost use Rattle.view_json.specs.Printed.{Writes};
+ghost use Rattle.view_tokens.specs.Printed.{Writes};
 ghost use Rattle.view_json.specs.Objects.{channel, standing};
 ghost use Rattle.view_json.specs.Shown.{is_text, AreTold, has_changes, changed_cell, changed_cells, locals, with_locals, Lists, ListsMore, if_new, if_changed, new_ones, changed_ones, channels_from, processes_from, listed, ListsChannels, ListsProcesses};
 ghost use Rattle.view_json.specs.Added.{told_variables, told_locals, told_unless, is_kept, telling, AddsProcess, PrintsLocals, PrintsChannel, ListsChannel, ListsObject, PrintsProcess, ListsProcess, ListsBehind, AddsChannels, AddsProcesses};
@@ -18,13 +18,13 @@ use crate::counted::Counted;
 use crate::list::Listing;
 use crate::objects::{all_cells, cell};
 use crate::process::standing;
-use crate::tokens::Json;
 use promela_run::moves::Move;
 use run_values::changed::Change;
 use std::alloc::{AllocError, Global};
 use std::marker::Model;
 use view_cells::picture::Picture;
 use view_text::writer::Writer;
+use view_tokens::tokens::Json;
 
 fn is_at(all: &[Vec<u8>], at: usize, bytes: &[u8]) -> bool
     ensures { result ≡ is_text bytes.now (slice_get (map (λ v. v.items) all.now) at) }

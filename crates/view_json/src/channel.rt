@@ -5,17 +5,17 @@ ghost use Rattle.std.specs.List.{flat_map};
 ghost use Rattle.std.specs.Fmt.{decimal};
 ghost use Rattle.pml_program.specs.declared.form.Form.TheVariants as kind;
 ghost use Rattle.promela_run.specs.State.{channel_at};
-ghost use Rattle.view_json.specs.Printed.{Writes};
+ghost use Rattle.view_tokens.specs.Printed.{Writes};
 ghost use Rattle.view_json.specs.Objects.{types_of, text, member, array, scalar_name, form_token, field, fields, message, messages, or_null, contents, channel_heading, AddsChannel};
 
 use crate::objects::{number, value, whole};
-use crate::tokens::Json;
 use pml_channel::channel::Channel;
 use pml_program::form::Form;
 use pml_tree::tree::Scalar;
 use view_cells::channels::{add_channel_name, channel_at};
 use view_cells::picture::Picture;
 use view_text::writer::Writer;
+use view_tokens::tokens::Json;
 
 fn scalar_name(scalar: Scalar) -> &'static str
     ensures { result.now ≡ scalar_name scalar }

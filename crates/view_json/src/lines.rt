@@ -4,9 +4,8 @@ ghost use Rattle.std.specs.Prelude.{◌≡◌, ◌++◌, ℕ, List, true, false,
 ghost use Rattle.std.specs.List.{flat_map, range_with_len};
 ghost use Rattle.promela_run.specs.declared.moves.Move.TheVariants.{Death};
 ghost use Rattle.promela_run.specs.State.{channel_at};
-ghost use Rattle.promela_run.specs.World.{move_text};
 ghost use Rattle.view_text.specs.Written.{Adds};
-ghost use Rattle.view_json.specs.Printed.{Writes};
+ghost use Rattle.view_tokens.specs.Printed.{Writes};
 ghost use Rattle.view_json.specs.Objects.{text, detail};
 ghost use Rattle.view_json.specs.Lines.{begun, texts, does_word, mover, addressee, receiver, passed, transfer, stuck_by, stuck, all_stuck, open_moves, stuck_where, is_own, ended, choices, chosen, front, line, ReadsBack};
 ghost use Rattle.view_json.specs.Choices.{TellsChoices};
@@ -17,22 +16,22 @@ use crate::channel::message;
 use crate::choice::add_choices;
 pub use crate::choice::choices_of;
 pub use crate::list::Listing;
-use crate::objects::{detail, number, text, whole};
+use crate::objects::{detail, number, text};
 pub use crate::past::Past;
 use crate::past::add_past;
 use crate::process::{named, picked};
 pub use crate::start::add_start;
 pub use crate::steps::{Done, Note, add_step};
-use crate::tokens::Json;
+use crate::texts::move_texts;
 use diagnostics::Fault;
 use promela_run::moves::{Move, Pick};
 use run_texts::ends::stuck as pml_stuck;
-use run_texts::texts::add_move;
 use std::alloc::Global;
 use view_cells::channels::channel_at;
 use view_cells::picture::Picture;
 use view_cells::processes::line_of;
 use view_text::writer::Writer;
+use view_tokens::tokens::Json;
 use view_waits::fault::{add_detail, detail_of};
 use view_waits::statement::add_statement_reads;
 use view_waits::transfer::{Does, Transfer};
@@ -55,26 +54,6 @@ pub fn begin(alloc: Global, event: &str) -> Json
     json.key("event");
     json.string(event);
     json
-}
-
-// Writes the text of a move, in the memory of a line that is begun anew.
-fn move_text(picture: &Picture<'_, '_, '_>, json: &mut Json, m: Move, line: &mut Writer)
-    ensures { Writes json.old json.new (text (move_text picture.now m)) }
-{
-    line.clear();
-    let mut bytes = line.take();
-    let answer = add_move(picture.live(), m, &mut bytes);
-    line.put(bytes, answer);
-    whole(json, line);
-}
-
-fn move_texts(picture: &Picture<'_, '_, '_>, json: &mut Json, moves: &[Move])
-    ensures { Writes json.old json.new (flat_map (λ m. text (move_text picture.now m)) moves.now) }
-{
-    let mut line = Writer::new(json.allocator());
-    for m in moves {
-        move_text(picture, json, *m, &mut line);
-    }
 }
 
 // Writes the texts of the present moves.

@@ -3,10 +3,9 @@
 ghost use Rattle.std.specs.Prelude.{◌≡◌, [], ◌∷◌, true, codes};
 ghost use Rattle.json.specs.Token.{key};
 ghost use Rattle.view_cells.specs.Cells.{path_of};
-ghost use Rattle.view_json.specs.Printed.{Writes, string_of};
+ghost use Rattle.view_tokens.specs.Printed.{Writes, string_of};
 ghost use Rattle.view_json.specs.Objects.{count, text, member, detail, object, value, held, cell, variable_cells, frame_cells, cells};
 
-use crate::tokens::Json;
 use pml_program::form::Form;
 use promela_process::place::Place;
 use view_cells::cells::{
@@ -14,6 +13,7 @@ use view_cells::cells::{
 };
 use view_cells::picture::Picture;
 use view_text::writer::Writer;
+use view_tokens::tokens::Json;
 
 /// Writes a member that is a number.
 pub fn number(json: &mut Json, name: &str, number: usize)

@@ -1,11 +1,10 @@
 //! What led to an end that is not valid: who used and who set last what processes wait at, and the round of those that wait for one another.
 
-ghost use Rattle.view_json.specs.Printed.{Stays};
+ghost use Rattle.view_tokens.specs.Printed.{Stays};
 ghost use Rattle.view_json.specs.Added.{AddsPast};
 
 use crate::channel::channel_heading;
 use crate::objects::{number, value, written};
-use crate::tokens::Json;
 use promela_process::place::Place;
 use std::alloc::{AllocError, Global};
 use view_cells::cells::form_at;
@@ -16,6 +15,7 @@ use view_past::target::channel_of;
 use view_past::uses::{Use, Uses};
 use view_past::writers::{Writing, Writings, add_cell_name, add_writing, awaited_writer, reads_of};
 use view_text::writer::Writer;
+use view_tokens::tokens::Json;
 use view_waits::reads::Read;
 use view_waits::waits::{Wait, add_waits};
 

@@ -5,16 +5,16 @@ ghost use Rattle.promela_run.specs.Moves.{moves as all_moves};
 ghost use Rattle.view_cells.specs.Processes.{name_of};
 ghost use Rattle.view_waits.specs.Offers.{offered_text};
 ghost use Rattle.view_waits.specs.Waits.{waits as all_waits};
-ghost use Rattle.view_json.specs.Printed.{Writes};
+ghost use Rattle.view_tokens.specs.Printed.{Writes};
 ghost use Rattle.view_json.specs.Objects.{text, member, named, offer, waits_at, because, wait, heading, AddsWaits, AddsStanding};
 
 use crate::counted::Counted;
 use crate::objects::{number, written};
-use crate::tokens::Json;
 use promela_run::moves::Pick;
 use view_cells::picture::Picture;
 use view_cells::processes::{add_name, line_of};
 use view_text::writer::Writer;
+use view_tokens::tokens::Json;
 use view_waits::offers::{add_offer, offer_line};
 use view_waits::waits::Wait;
 use view_waits::words::add_words;

@@ -4,7 +4,7 @@ ghost use Rattle.std.specs.Prelude.{◌≡◌, ◌++◌, false, OnOk, codes};
 ghost use Rattle.std.specs.List.{flat_map};
 ghost use Rattle.promela_run.specs.Lines.{proctype_name};
 ghost use Rattle.promela_run.specs.Moves.{moves as all_moves};
-ghost use Rattle.view_json.specs.Printed.{Writes};
+ghost use Rattle.view_tokens.specs.Printed.{Writes};
 ghost use Rattle.view_json.specs.Objects.{text, member, cells};
 ghost use Rattle.view_json.specs.Shown.{Told};
 ghost use Rattle.view_json.specs.Steps.{named, proctype, proctypes, heading, start, TellsStart};
@@ -14,12 +14,12 @@ use crate::changed::{Behind, Shown};
 use crate::lines::begin;
 use crate::objects::{all_cells, number, written};
 use crate::steps::add_objects;
-use crate::tokens::Json;
 use pml_program::program::Proctype;
 use promela_run::moves::Move;
 use std::alloc::{AllocError, Global};
 use view_cells::picture::Picture;
 use view_text::writer::Writer;
+use view_tokens::tokens::Json;
 
 // Writes the name of a proctype.
 fn proctype_name(json: &mut Json, proctype: &Proctype<'_>)

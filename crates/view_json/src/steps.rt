@@ -4,7 +4,7 @@ ghost use Rattle.std.specs.Prelude.{◌≡◌, ◌++◌, true, false, OnOk, code
 ghost use Rattle.json.specs.Print.{print_from, ends_value, ArePrintable};
 ghost use Rattle.promela_run.specs.Moves.{moves as all_moves};
 ghost use Rattle.view_text.specs.Written.{Adds};
-ghost use Rattle.view_json.specs.Printed.{Writes};
+ghost use Rattle.view_tokens.specs.Printed.{Writes};
 ghost use Rattle.view_json.specs.Shown.{Told};
 ghost use Rattle.view_json.specs.Steps.{printed, globals, changed, shown_of, IsTold, told, same, claim, cycle, noted, counts, TellsStep};
 ghost use Rattle.view_json.specs.Added.{telling, AddsRest, AddsObjects, AddsStep};
@@ -12,12 +12,12 @@ ghost use Rattle.view_json.specs.Added.{telling, AddsRest, AddsObjects, AddsStep
 use crate::changed::{Behind, Shown, changed_cells, has_changes};
 use crate::list::Listing;
 use crate::objects::{number, text};
-use crate::tokens::Json;
 use promela_run::moves::Move;
 use run_values::changed::Change;
 use std::alloc::AllocError;
 use view_cells::picture::Picture;
 use view_text::writer::Writer;
+use view_tokens::tokens::Json;
 
 /// What a trail says beside a step: to which line a claim moves with it, and whether a cycle begins behind it.
 #[derive(Clone, Copy)]

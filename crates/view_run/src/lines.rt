@@ -12,7 +12,6 @@ use std::alloc::{AllocError, Global};
 use view_json::lines::{
     Ahead, Done, Listing, Note, Past, Shown, add_end, add_fault, add_step, choices_of, front,
 };
-use view_json::tokens::Json;
 use view_page::page::{add_end_item, add_fault_item, add_item};
 use view_past::states::{MOST_STATES, States};
 use view_past::whole::add_whole;
@@ -23,6 +22,7 @@ use view_session::seen::picture_of;
 use view_session::steps::choose;
 use view_state::choices::add_move;
 use view_text::writer::Writer;
+use view_tokens::tokens::Json;
 use view_waits::transfer::{Transfer, transfer_of};
 use view_walk::walk::{Walk, Went};
 

@@ -2,7 +2,7 @@
 
 ghost use Rattle.std.specs.Prelude.{◌≡◌};
 ghost use Rattle.promela_run.specs.Moves.{moves as all_moves};
-ghost use Rattle.view_json.specs.Printed.{Stays};
+ghost use Rattle.view_tokens.specs.Printed.{Stays};
 ghost use Rattle.view_text.specs.Written.{Stays as KeepsRefusal};
 
 use promela_run::moves::Move;
@@ -13,8 +13,8 @@ use view_json::counted::Counted;
 use view_json::lines::begin;
 use view_json::objects::{number, text};
 use view_json::process::standing;
-use view_json::tokens::Json;
 use view_text::writer::Writer;
+use view_tokens::tokens::Json;
 use view_walk::leg::Leg;
 use walk_answers::halt::Halt;
 use walk_answers::seen::moves_in;

@@ -1,7 +1,7 @@
 -- those before the loop's are written
 use Rattle.std.proofs.Common.{take}
 use Rattle.std.specs.List.{flat_map}
-use Rattle.view_json.specs.Printed.{Writes}
+use Rattle.view_tokens.specs.Printed.{Writes}
 use Rattle.view_json.specs.Shown.{changed_cell}
 use Rattle.view_json.proofs.changed.each_changed.Given as goal
 

@@ -3,7 +3,7 @@ use Rattle.std.specs.List.{flat_map}
 use Rattle.std.proofs.lemmas.Option.{get_or_from_slice_get, slice_get_within}
 use Rattle.pml_program.specs.declared.form.Form.{Form}
 use Rattle.view_text.proofs.Writing.{item_more}
-use Rattle.view_json.specs.Printed.{Writes}
+use Rattle.view_tokens.specs.Printed.{Writes}
 use Rattle.view_json.specs.Objects.{message}
 use Rattle.view_json.proofs.Writing.{chain}
 use Rattle.view_json.proofs.channel.all_messages.Goals as goal

@@ -1,6 +1,6 @@
 -- the fields before the loop's are written
 use Rattle.std.specs.List.{flat_map, range_with_len}
-use Rattle.view_json.specs.Printed.{Writes}
+use Rattle.view_tokens.specs.Printed.{Writes}
 use Rattle.view_json.specs.Objects.{field}
 use Rattle.view_json.proofs.channel.fields.Given as goal
 

@@ -1,7 +1,7 @@
 -- the types before the loop's are written
 use Rattle.std.proofs.Common.{take}
 use Rattle.std.specs.List.{flat_map}
-use Rattle.view_json.specs.Printed.{Writes}
+use Rattle.view_tokens.specs.Printed.{Writes}
 use Rattle.view_json.specs.Objects.{form_token}
 use Rattle.view_json.proofs.channel.form_names.Given as goal
 

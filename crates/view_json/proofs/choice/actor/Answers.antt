@@ -1,5 +1,5 @@
 use Rattle.std.proofs.Common.{subst, ℕ, codes}
-use Rattle.view_json.specs.Printed.{Writes}
+use Rattle.view_tokens.specs.Printed.{Writes}
 use Rattle.view_json.specs.Objects.{count, member}
 use Rattle.view_json.proofs.Writing.{chained}
 use Rattle.view_json.proofs.choice.actor.Goals as goal

@@ -1,6 +1,11 @@
-use Rattle.view_json.proofs.Choices.{choices_more}
+use Rattle.view_json.proofs.Choices.{choices_none, choices_more}
 use Rattle.view_json.proofs.choice.add_choices.Goals as goal
 
+pub loop-m-init : goal.loop-m-init
+loop-m-init c = (choices_none c.args.picture.now _, c.new-before.ensures c.args.picture.now)
+
 pub loop-m-preserved : goal.loop-m-preserved
-loop-m-preserved c =
-    choices_more c.args.picture.now c.loop-m.m-index c.args.moves.now _ _ _ _ c.loop-m-test.true c.loop-m.invariant c.add_choice.ensures.0 c.add_choice.ensures.1
+loop-m-preserved c = (
+  choices_more c.args.picture.now c.loop-m.m-index c.args.moves.now _ _ _ _ c.loop-m-test.true c.loop-m.invariant.0 c.add_choice-before.ensures.choice.0 c.add_choice-before.ensures.choice.1,
+  c.add_choice-before.ensures.goes,
+)

@@ -2,7 +2,7 @@ use Rattle.std.proofs.Common.{subst, Bool, ℕ, List, ◌++◌, ◌∷◌, []}
 use Rattle.json.specs.Token.{Token, end_object}
 use Rattle.view_text.specs.Written.{Adds}
 use Rattle.view_text.proofs.Writing.{chained as one_by_one}
-use Rattle.view_json.specs.Printed.{Writes}
+use Rattle.view_tokens.specs.Printed.{Writes}
 use Rattle.view_json.specs.Lines.{line, ReadsBack, ended, stuck_where, is_own, open_moves}
 use Rattle.view_json.specs.Choices.{told_choices}
 use Rattle.view_json.specs.Added.{told_past}

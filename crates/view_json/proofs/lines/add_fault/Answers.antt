@@ -1,5 +1,5 @@
 use Rattle.std.proofs.Common.{refl, subst, ℕ, List, codes}
-use Rattle.view_json.specs.Printed.{Writes}
+use Rattle.view_tokens.specs.Printed.{Writes}
 use Rattle.view_json.specs.Objects.{count, member, text}
 use Rattle.view_json.specs.Lines.{faulted}
 use Rattle.view_json.specs.Choices.{told_choices}

@@ -1,6 +1,6 @@
 -- the processes before the loop's are written
 use Rattle.std.specs.List.{flat_map, range_with_len}
-use Rattle.view_json.specs.Printed.{Writes}
+use Rattle.view_tokens.specs.Printed.{Writes}
 use Rattle.view_json.specs.Lines.{stuck}
 use Rattle.view_json.proofs.lines.each_stuck.Given as goal
 

@@ -1,7 +1,7 @@
 -- the cells before the loop's are written
 use Rattle.std.specs.List.{flat_map, range_with_len}
 use Rattle.view_cells.specs.Cells.{place}
-use Rattle.view_json.specs.Printed.{Writes}
+use Rattle.view_tokens.specs.Printed.{Writes}
 use Rattle.view_json.specs.Objects.{cell}
 use Rattle.view_json.proofs.objects.cells_of.Given as goal
 

@@ -1,6 +1,6 @@
 -- the cells of the variables before the loop's are written
 use Rattle.std.specs.List.{flat_map, range_with_len}
-use Rattle.view_json.specs.Printed.{Writes}
+use Rattle.view_tokens.specs.Printed.{Writes}
 use Rattle.view_json.specs.Objects.{variable_cells}
 use Rattle.view_json.proofs.objects.members.Given as goal
 

@@ -1,5 +1,5 @@
 -- where memory was refused it stays so
-use Rattle.view_json.specs.Printed.{Stays}
+use Rattle.view_tokens.specs.Printed.{Stays}
 use Rattle.view_json.proofs.past.each_cell.Given as goal
 
 abbrev pub invariant-loop-process : goal.invariant-loop-process

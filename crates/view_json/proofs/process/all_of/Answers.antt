@@ -1,6 +1,6 @@
 use Rattle.std.proofs.Common.{ap}
 use Rattle.view_waits.specs.Waits.{waits}
-use Rattle.view_json.specs.Printed.{Printed}
+use Rattle.view_tokens.specs.Printed.{Printed}
 use Rattle.view_json.proofs.Waits.{waits_refused}
 use Rattle.view_json.proofs.process.all_of.Goals as goal
 

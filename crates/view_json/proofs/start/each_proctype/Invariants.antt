@@ -1,7 +1,7 @@
 -- the proctypes before the loop's are written
 use Rattle.std.proofs.Common.{take}
 use Rattle.std.specs.List.{flat_map}
-use Rattle.view_json.specs.Printed.{Writes}
+use Rattle.view_tokens.specs.Printed.{Writes}
 use Rattle.view_json.specs.Steps.{proctype}
 use Rattle.view_json.proofs.start.each_proctype.Given as goal
 

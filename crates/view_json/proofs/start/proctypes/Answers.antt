@@ -2,7 +2,7 @@ use Rattle.std.proofs.Common.{◌≡◌, ◌∙◌, ap, subst, List}
 use Rattle.std.specs.List.{flat_map}
 use Rattle.pml_program.specs.declared.program.Proctype.{Proctype}
 use Rattle.pml_program.specs.declared.program.Program.{Program}
-use Rattle.view_json.specs.Printed.{Writes}
+use Rattle.view_tokens.specs.Printed.{Writes}
 use Rattle.view_json.specs.Steps.{proctype}
 use Rattle.view_json.proofs.Writing.{chained}
 use Rattle.view_json.proofs.start.proctypes.Goals as goal

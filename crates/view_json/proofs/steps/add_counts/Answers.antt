@@ -1,7 +1,7 @@
 use Rattle.std.proofs.Common.{subst, ℕ, codes}
 use Rattle.view_text.specs.Written.{Adds}
 use Rattle.view_text.proofs.Writing.{chained}
-use Rattle.view_json.specs.Printed.{Writes}
+use Rattle.view_tokens.specs.Printed.{Writes}
 use Rattle.view_json.specs.Objects.{count, member}
 use Rattle.view_json.specs.Steps.{counts}
 use Rattle.view_json.proofs.Writing.{chained as also}

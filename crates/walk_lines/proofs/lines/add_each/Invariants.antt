@@ -1,6 +1,6 @@
 use Rattle.std.proofs.Common.{◌≡◌}
 use Rattle.promela_run.specs.Moves.{moves}
-use Rattle.view_json.specs.Printed.{Stays}
+use Rattle.view_tokens.specs.Printed.{Stays}
 use Rattle.walk_lines.proofs.lines.add_each.Given as goal
 
 abbrev pub invariant-loop-process : goal.invariant-loop-process

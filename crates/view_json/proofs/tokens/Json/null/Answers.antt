@@ -1,5 +1,0 @@
-use Rattle.view_json.proofs.Printable.{kept}
-use Rattle.view_json.proofs.tokens.Json.null.Goals as goal
-
-pub invariant_of-self : goal.invariant_of-self
-invariant_of-self c = kept _ _ _ _ c.null-answer.ensures tt c.self.invariant

@@ -1,0 +1,36 @@
+-- What was written of a process at an offer, and is written again for the next that does the same.
+use Rattle.std.specs.Prelude.{◌≡◌, ℕ, Bool, false, ◌&&◌, not, nat_eq, List, [], ◌++◌, codes}
+use Rattle.std.specs.Str.{bytes_eq}
+use Rattle.std.specs.Option.{option_map_or}
+use Rattle.json.specs.Token.{Token}
+use Rattle.promela_run.specs.State.{picked, State}
+use Rattle.promela_run.specs.declared.moves.Pick.{Pick}
+use Rattle.view_waits.specs.Offers.{offered_line, offered_text}
+use Rattle.view_json.specs.declared.known.Known.{Known}
+use Rattle.view_json.specs.Objects.{count, text, member, named}
+use Rattle.view_json.specs.Choices.{actor, next_line}
+
+-- the text of the offer that a pick names, with its line
+abbrev pub whole_text : State → Pick → List ℕ
+whole_text s k = option_map_or (λ o. o.text) (picked s k) []
+
+-- a process, an offer with this line and text, and where it stands behind it
+abbrev pub acted : State → ℕ → ℕ → List ℕ → ℕ → List Token
+acted s p line bare next =
+    (named s p ++ (member (codes "line") (count line) ++ member (codes "text") (text bare))) ++ member (codes "next") (count next)
+
+-- what was written is of this offer
+pub record IsOf (s : State) (k : Known) : Type 0 where
+  pub line : k.line ≡ offered_line s k.pick
+  pub text : k.text.items ≡ whole_text s k.pick
+  pub next : k.next ≡ next_line s k.pick
+  pub written : k.written.tokens ≡ actor s k.pick
+
+-- so it is, unless nothing was written
+abbrev pub Knows : State → Known → Type 0
+Knows s k = k.written.refused ≡ false → IsOf s k
+
+-- whether something was written, of an offer of this process, with this line and text, behind which the process stands at this line
+abbrev pub alike : Known → ℕ → ℕ → List ℕ → ℕ → Bool
+alike k p at whole behind =
+    not k.written.refused && (nat_eq k.pick.process p && (nat_eq k.line at && (nat_eq k.next behind && bytes_eq k.text.items whole)))

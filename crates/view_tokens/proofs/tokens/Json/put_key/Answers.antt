@@ -1,0 +1,15 @@
+use Rattle.std.proofs.Common.{◌∙◌, sym, subst, IsUtf8}
+use Rattle.json.specs.Token.{key}
+use Rattle.view_tokens.proofs.Growing.{is_escaped_key}
+use Rattle.view_tokens.proofs.tokens.Json.put_key.Goals as goal
+
+pub put-requires : goal.put-requires
+put-requires c = (
+  key c.args.name.now,
+  is_escaped_key c.args.name.now c.as_slice.result.now (c.as_slice.ensures.value ∙ c.in-Ok.ensures.value) (subst IsUtf8 (sym c.as_slice.ensures.value) c.in-Ok.ensures.utf8),
+)
+
+pub returns-in-Ok : goal.returns-in-Ok
+returns-in-Ok c =
+    c.put.ensures (key c.args.name.now)
+    (is_escaped_key c.args.name.now c.as_slice.result.now (c.as_slice.ensures.value ∙ c.in-Ok.ensures.value) (subst IsUtf8 (sym c.as_slice.ensures.value) c.in-Ok.ensures.utf8))
