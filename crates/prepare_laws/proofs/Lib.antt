@@ -1,4 +1,5 @@
 pub mod OpenSince
 pub mod LineEnds
 pub mod Twice
+pub mod Lists
 mod Rows

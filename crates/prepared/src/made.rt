@@ -15,9 +15,10 @@ ghost use Rattle.prepared.specs.Made.{rewritten, TellsTokens, IsDivided, IsMadeO
 use crate::given::How;
 use crate::kinds::What;
 use crate::lines::lines_of;
-use crate::model::model_text;
+use crate::model::{Left, model_text};
 use crate::report::{Called, Report};
 use crate::unprepared::Unprepared;
+use called_macros::origin::Origin;
 use computed_sizes::writing::with_sizes;
 use declared_steps::writing::{Stepped, with_steps};
 use listed_values::writing::{Valued, with_values};
@@ -41,6 +42,8 @@ pub struct Prepared {
     pub text: Vec<u8>,
     /// Where the lines of included files stand in it.
     pub lines: Vec<u8>,
+    /// The tokens that it came of, if some came of the body of a macro.
+    pub origin: Option<Origin>,
     /// What is to be said of it.
     pub said: String,
     /// Whether something is left that is not played.
@@ -249,17 +252,19 @@ fn made_with_commas(alloc: Global, text: &[u8], called: Called<'_>) -> Result<Ma
 }
 
 /// What is prepared of a text that is without `#` lines and macros.
-pub fn prepared_from(alloc: Global, text: &[u8], called: Called<'_>) -> Result<Prepared, Unprepared>
-    ensures { IfOk result (IsMadeOf text.now) }
+pub fn prepared_from(alloc: Global, left: Left, called: Called<'_>) -> Result<Prepared, Unprepared>
+    ensures { IfOk result (IsMadeOf left.text.items) }
 {
+    let Left { text, origin } = left;
     if text.len() > MOST_BYTES {
         return Err(Unprepared::TooLong);
     }
-    let lines = lines_of(alloc, text)?;
-    let made = made_with_commas(alloc, text, called)?;
+    let lines = lines_of(alloc, &text)?;
+    let made = made_with_commas(alloc, &text, called)?;
     Ok(Prepared {
         text: made.text,
         lines,
+        origin,
         said: made.said,
         is_left: made.is_left,
     })
@@ -274,6 +279,6 @@ pub fn prepared_of(
 ) -> Result<Prepared, Unprepared>
     ensures { IfOk result (IsPreparedOf how.now text.now) }
 {
-    let expanded = model_text(rt, how, called, text)?;
-    prepared_from(rt.alloc(), &expanded, called)
+    let left = model_text(rt, how, called, text)?;
+    prepared_from(rt.alloc(), left, called)
 }

@@ -1,6 +1,8 @@
 //! The text of a model that is to be prepared: as it is, or what the preprocessor leaves of it.
 
-ghost use Rattle.std.specs.Prelude.{◌≡◌, IfOk};
+ghost use Rattle.std.specs.Prelude.{◌≡◌, true, IfOk, IfSome};
+ghost use Rattle.std.specs.List.{list_any};
+ghost use Rattle.called_macros.specs.Origins.{is_body};
 ghost use Rattle.prepared.specs.Made.{IsLeftOf};
 
 use crate::disk::Disk;
@@ -8,10 +10,12 @@ use crate::given::How;
 use crate::refused::{Read, tell_notes, unprepared_of};
 use crate::report::Called;
 use crate::unprepared::Unprepared;
+use called_macros::origin::{Origin, has_body};
 use marked_text::written::{Sources, written};
 use pml_directives::plain::is_plain;
 use pml_directives::state::State;
 use pml_directives::whole::preprocess;
+use pml_macros::work::Work;
 use std::alloc::AllocError;
 
 // What the lines that stand for options are called.
@@ -26,13 +30,43 @@ fn copied(rt: &HostRuntime, text: &[u8]) -> Result<Vec<u8>, AllocError>
     Ok(bytes)
 }
 
+/// The text that is to be prepared, and the tokens that it came of, if some came of the body of a macro.
+#[derive(Drop)]
+pub struct Left {
+    pub text: Vec<u8>,
+    pub origin: Option<Origin>,
+}
+
+// The tokens that a text came of, if some came of the body of a macro.
+fn origin_of(state: State) -> Option<Origin>
+    ensures { IfSome result (λ o. list_any is_body o.atoms.items ≡ true) }
+{
+    let State {
+        work: Work { book, .. },
+        out: atoms,
+        names,
+        homes,
+        ..
+    } = state;
+    if has_body(&atoms) {
+        Some(Origin {
+            atoms,
+            book,
+            names,
+            homes,
+        })
+    } else {
+        None
+    }
+}
+
 // What the preprocessor leaves of a text of this name.
 fn preprocessed(
     rt: &HostRuntime,
     how: &How,
     called: Called<'_>,
     text: &[u8],
-) -> Result<Vec<u8>, Unprepared> {
+) -> Result<Left, Unprepared> {
     let alloc = rt.alloc();
     let mut state = State::new(alloc, called.name.as_bytes(), GIVEN)?;
     let read = Read {
@@ -54,7 +88,9 @@ fn preprocessed(
         names: &state.names,
         homes: &state.homes,
     };
-    Ok(written(alloc, &state.work.book, sources, &state.out)?)
+    let text = written(alloc, &state.work.book, sources, &state.out)?;
+    let origin = origin_of(state);
+    Ok(Left { text, origin })
 }
 
 /// The text that is prepared of a text of this name. One in which nothing is for a preprocessor is as it was.
@@ -63,11 +99,12 @@ pub fn model_text(
     how: &How,
     called: Called<'_>,
     text: &[u8],
-) -> Result<Vec<u8>, Unprepared>
-    ensures { IfOk result (λ v. IsLeftOf how.now text.now v.items) }
+) -> Result<Left, Unprepared>
+    ensures { IfOk result (λ l. IsLeftOf how.now text.now l.text.items) }
 {
     if how.is_plain || (how.given.is_empty() && is_plain(text)) {
-        return Ok(copied(rt, text)?);
+        let text = copied(rt, text)?;
+        return Ok(Left { text, origin: None });
     }
     preprocessed(rt, how, called, text)
 }

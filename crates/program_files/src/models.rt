@@ -3,6 +3,7 @@
 use crate::fault::NoFile;
 use crate::identity::Identity;
 use crate::texts::{Text, model_of, text_of};
+use called_macros::origin::Origin;
 use prepare::MOST_BYTES;
 use prepared::given::How;
 use prepared::made::{Prepared, prepared_of};
@@ -12,11 +13,13 @@ use prepared::unprepared::Unprepared;
 // At most so many bytes are read of a text that is prepared: one more than it may have.
 const MOST_READ: u64 = MOST_BYTES as u64 + 1;
 
-/// The text that a model was prepared of by the program itself, and where lines of included files stand in what was prepared.
+/// The text that a model was prepared of by the program itself, where lines of included files stand in what was prepared, and the tokens that it came
+/// of, if some came of the body of a macro.
 #[derive(Drop)]
 pub struct Own {
     pub text: Vec<u8>,
     pub lines: Vec<u8>,
+    pub origin: Option<Origin>,
 }
 
 /// A model, and which regular file it is of, if it is of one.
@@ -65,6 +68,7 @@ fn prepared_text(
     let own = Own {
         text: text.bytes,
         lines: prepared.lines,
+        origin: prepared.origin,
     };
     Ok(Model {
         bytes: prepared.text,

@@ -76,7 +76,7 @@ fn run(rt: &HostRuntime) -> Result<u8, Stop> {
     let own = text_over(rt, file, opened(rt, file)?)?;
     if asked.is_expanded {
         let text = model_text(rt, &asked.how, called, &own)?;
-        return expand(rt, &text);
+        return expand(rt, &text.text);
     }
     let done = prepare_over(rt, &asked.how, called, &own, &mut rt.stdout())?;
     let said = done.said.as_str();
