@@ -1,3 +1,4 @@
 pub mod Messages
 pub mod Questions
 pub mod Colours
+pub mod Aids

@@ -1,10 +1,12 @@
 //! What a language server for Promela answers: a message in, messages out, and no device.
 #![tactic(auto)]
 
+mod aids;
 mod answers;
 mod colours;
 mod documents;
 mod fields;
+mod folds;
 mod questions;
 mod replies;
 mod server;
