@@ -6,8 +6,9 @@ use Rattle.lsp_places.specs.declared.page.Page.{Page}
 use Rattle.lsp_folds.specs.Lines.{AreFolds}
 use Rattle.lsp_answers.specs.declared.colours.Extent.{Extent}
 use Rattle.lsp_answers.specs.declared.aids.Aid.{Aid}
-use Rattle.lsp_answers.specs.declared.aids.Aid.TheVariants.{Colours, Folds}
+use Rattle.lsp_answers.specs.declared.aids.Aid.TheVariants.{Colours, Folds, Completion}
 use Rattle.lsp_answers.specs.Colours.{extent_of, AreTold}
+use Rattle.lsp_answers.specs.Completions.{IsCompleted}
 
 abbrev pub coloured_by : Option Extent → Option Aid
 coloured_by None = None
@@ -15,7 +16,10 @@ coloured_by (Some e) = Some (Colours e)
 
 -- what a method asks for
 abbrev pub aid_of : List ℕ → Option Aid
-aid_of m = if bytes_eq m (codes "textDocument/foldingRange") then Some Folds else coloured_by (extent_of m)
+aid_of m =
+    if bytes_eq m (codes "textDocument/foldingRange") then Some Folds
+    else if bytes_eq m (codes "textDocument/completion") then Some Completion
+    else coloured_by (extent_of m)
 
 -- the parts of a text that are folded: nothing of one that cannot be cut into tokens
 pub data IsFolded (page : Page) (d : Data) : Type 0 where
@@ -26,3 +30,4 @@ pub data IsFolded (page : Page) (d : Data) : Type 0 where
 abbrev pub IsAid : Aid → Page → Data → Data → Type 0
 IsAid (Colours e) page m d = AreTold e page m d
 IsAid Folds page m d = IsFolded page d
+IsAid Completion page m d = IsCompleted page m d

@@ -1,4 +1,5 @@
 pub mod Messages
 pub mod Questions
 pub mod Colours
+pub mod Completions
 pub mod Aids

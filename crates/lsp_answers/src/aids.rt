@@ -6,6 +6,7 @@ ghost use Rattle.lsp_answers.specs.Colours.{extent_of};
 ghost use Rattle.lsp_answers.specs.Aids.{aid_of, coloured_by, IsAid};
 
 use crate::colours::{Extent, colours};
+use crate::completions::completed;
 use crate::folds::folds;
 use crate::replies::Fault;
 use lsp_places::page::Page;
@@ -19,6 +20,8 @@ pub enum Aid {
     Colours(Extent),
     /// The parts that are folded.
     Folds,
+    /// What may be typed at a place.
+    Completion,
 }
 
 /// Colours, if they are asked of a part of a text.
@@ -38,6 +41,7 @@ impl Aid {
     {
         match method {
             "textDocument/foldingRange" => Some(Aid::Folds),
+            "textDocument/completion" => Some(Aid::Completion),
             _ => coloured_by(Extent::of(method)),
         }
     }
@@ -55,5 +59,6 @@ pub fn aided(
     match aid {
         Aid::Colours(extent) => colours(alloc, page, extent, message),
         Aid::Folds => Ok(Ok(folds(alloc, page)?)),
+        Aid::Completion => completed(alloc, page, message),
     }
 }

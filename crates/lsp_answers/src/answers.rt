@@ -23,7 +23,7 @@ use std::alloc::{AllocError, Global};
 use text_places::{Unit, offset_of};
 
 /// The place of a text that a request asks of.
-fn offset_in(page: Page<'_>, parameters: &Value) -> Option<usize>
+pub fn offset_in(page: Page<'_>, parameters: &Value) -> Option<usize>
     ensures { result ≡ offset_in page.entry (view parameters.now) }
 {
     let Some(position) = parameters.get("position") else {

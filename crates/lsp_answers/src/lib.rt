@@ -4,6 +4,7 @@
 mod aids;
 mod answers;
 mod colours;
+mod completions;
 mod documents;
 mod fields;
 mod folds;

@@ -43,6 +43,7 @@ fn capabilities(alloc: Global, unit: Unit) -> Result<Value, AllocError> {
             "documentSymbolProvider": true,
             "renameProvider": {"prepareProvider": true},
             "foldingRangeProvider": true,
+            "completionProvider": {"triggerCharacters": ["."]},
             "semanticTokensProvider": {"legend": legend, "full": true, "range": true}
         },
         "serverInfo": {"name": "spinlsp", "version": "0.9.0"}
