@@ -8,6 +8,7 @@ ghost use Rattle.lsp_answers.specs.Aids.{aid_of, coloured_by, IsAid};
 use crate::colours::{Extent, colours};
 use crate::completions::completed;
 use crate::folds::folds;
+use crate::remedies::remedies;
 use crate::replies::Fault;
 use lsp_places::page::Page;
 use serde_json::Value;
@@ -22,6 +23,8 @@ pub enum Aid {
     Folds,
     /// What may be typed at a place.
     Completion,
+    /// What mends a refusal.
+    Remedies,
 }
 
 /// Colours, if they are asked of a part of a text.
@@ -42,6 +45,7 @@ impl Aid {
         match method {
             "textDocument/foldingRange" => Some(Aid::Folds),
             "textDocument/completion" => Some(Aid::Completion),
+            "textDocument/codeAction" => Some(Aid::Remedies),
             _ => coloured_by(Extent::of(method)),
         }
     }
@@ -60,5 +64,6 @@ pub fn aided(
         Aid::Colours(extent) => colours(alloc, page, extent, message),
         Aid::Folds => Ok(Ok(folds(alloc, page)?)),
         Aid::Completion => completed(alloc, page, message),
+        Aid::Remedies => remedies(alloc, page, message),
     }
 }

@@ -9,6 +9,7 @@ mod documents;
 mod fields;
 mod folds;
 mod questions;
+mod remedies;
 mod replies;
 mod server;
 mod told;
