@@ -1,4 +1,0 @@
-pub mod Fronts
-pub mod Items
-pub mod Readables
-pub mod Wishes
