@@ -43,8 +43,8 @@ class Reading:
     def __init__(self, text):
         self.inner, self.outer, self.sorts, self.lengths = [], [], {}, {}
         self.inlines, self.globals, self.fields = {}, {}, {}
-        # the parameters of inlines
-        self.parameters = set()
+        # of each declaration its type; whose it is, by the place of the unit's name; the parameters of inlines; where each unit's body begins and ends
+        self.kinds, self.owners, self.parameters, self.bodies, self.unit = {}, set(), {}, [], None
         self.text = text
         tokens = self.without_inlines(tokens_of(text))
         self.proctypes = {}
@@ -66,7 +66,8 @@ class Reading:
                 last = closing(tokens, end + 1, "{", "}")
                 body = tokens[end + 2:last]
                 self.inlines[name.text] = (name, [p.text for p in parameters], body)
-                self.parameters.update(p.at for p in parameters)
+                self.bodies.append((tokens[at].at, tokens[last].at, name.at))
+                self.parameters.update((p.at, name.at) for p in parameters)
                 self.note(self.inner, name, name.at)
                 self.sorts[name.at] = 12
                 for parameter in parameters:
@@ -117,6 +118,8 @@ class Reading:
         if token.text not in scope:
             scope[token.text] = Declared(token.at, sort, kind)
             self.sorts[token.at] = sort
+            self.kinds[token.at] = kind
+            self.owners.add((token.at, None if scope is self.globals else self.unit))
         self.note(self.outer, token, scope[token.text].at)
 
     def is_declaration(self, tokens, at):
@@ -198,6 +201,7 @@ class Reading:
             if is_name(token) and tokens[at + 1].text == ":" and (at == 0 or tokens[at - 1].text in ("{", ";", "->", "::", ":", "}", "fi", "od")):
                 labels.setdefault(token.text, token.at)
                 self.sorts.setdefault(token.at, 20)
+                self.owners.add((labels[token.text], self.unit))
         at = 0
         while at < len(tokens):
             token = tokens[at]
@@ -228,6 +232,8 @@ class Reading:
                 name, end = tokens[at + 1], closing(tokens, at + 2, "{", "}")
                 self.declare(self.globals, name, 23, None)
                 self.fields[name.text] = scope = {}
+                self.unit = name.at
+                self.bodies.append((tokens[at + 2].at, tokens[end].at, name.at))
                 inside, within = at + 3, tokens[:end]
                 while inside < end:
                     start = self.is_declaration(within, inside)
@@ -245,6 +251,8 @@ class Reading:
                 opens = next(number for number in range(end, len(tokens)) if tokens[number].text == "{")
                 last = closing(tokens, opens, "{", "}")
                 scope, inside, within = {}, at + 3, tokens[:end]
+                self.unit = name.at
+                self.bodies.append((token.at, tokens[last].at, name.at))
                 while inside < end:
                     start = self.is_declaration(within, inside)
                     inside = self.variables(within, start, scope, 13, self.globals) if start is not None else inside + 1
@@ -254,6 +262,8 @@ class Reading:
                 self.note(self.outer, token, token.at)
                 opens = next(number for number in range(at, len(tokens)) if tokens[number].text == "{")
                 last = closing(tokens, opens, "{", "}")
+                self.unit = token.at
+                self.bodies.append((token.at, tokens[last].at, token.at))
                 self.body(tokens[opens + 1:last], {})
                 at = last + 1
             elif kind is not None:
@@ -275,6 +285,50 @@ class Reading:
 
     def places_of(self, declared):
         return sorted({a for a, d in self.inner + self.outer if d == declared})
+
+    def spelled(self, at):
+        return self.text[at:at + self.lengths[at]]
+
+    def unit_at(self, offset):
+        """The place of the name of the unit in which a place stands."""
+        return next((name for start, end, name in self.bodies if start < offset <= end), None)
+
+    def of_unit(self, unit, sorts):
+        """What a unit, or the text for None, declares of these sorts."""
+        return {at for at, owner in self.owners if owner == unit and self.sorts[at] in sorts} | {
+            at for at, owner in self.parameters.items() if owner == unit and 13 in sorts} | ({at for at in self.inline_names() if 12 in sorts} if unit is None else set())
+
+    def inline_names(self):
+        return {name.at for name, _, _ in self.inlines.values()}
+
+    def offered(self, offset):
+        """The names that may stand at a place of which the text is read: a set, or None where that is not said here."""
+        front = tokens_of(self.text[:offset])
+        typed = ""
+        if front and front[-1].kind == "name" and front[-1].at + len(front[-1].text) == offset:
+            typed = front.pop().text
+        last, unit = front[-1].text if front else "", self.unit_at(offset)
+        if last == "run":
+            found = self.of_unit(None, {5})
+        elif last == "goto":
+            found = self.of_unit(unit, {20})
+        elif last == ".":
+            if unit in self.inline_names():
+                return None
+            return {name for name in self.fields_before(front[:-1]) if name.startswith(typed)}
+        else:
+            found = {at for at in self.of_unit(None, {13, 22, 23, 12}) if at < offset}
+            found |= {at for at in self.of_unit(unit, {13}) if at < offset} if unit is not None else set()
+        return {self.spelled(at) for at in found if self.spelled(at).startswith(typed)}
+
+    def fields_before(self, front):
+        """The fields of the reference that stands last among tokens."""
+        depth = 0
+        while front and (depth or front[-1].text == "]"):
+            depth += (front[-1].text == "]") - (front[-1].text == "[")
+            front = front[:-1]
+        declared = self.declared_at(front[-1].at) if front else []
+        return self.fields.get(self.kinds.get(declared[0]), {}) if declared else {}
 
     def colours(self):
         """Each token that is coloured, in the order of the text: its place, its length, and the kinds that it may have."""

@@ -1,3 +1,6 @@
 pub mod Messages
 pub mod Questions
 pub mod Colours
+pub mod Completions
+pub mod Remedies
+pub mod Aids
