@@ -1,5 +1,5 @@
 -- What mends a refused text, as values of JSON (LSP 3.17, code actions).
-use Rattle.std.specs.Prelude.{◌≡◌, Bool, true, if◌then◌else◌, List, [], ◌∷◌, ◌++◌, codes}
+use Rattle.std.specs.Prelude.{◌≡◌, ℕ, Bool, true, if◌then◌else◌, List, [], ◌∷◌, ◌++◌, codes}
 use Rattle.std.specs.Str.{bytes_eq}
 use Rattle.serde_json.specs.Data.{Data, boolean, string, array, no_items, item, object, member, no_members}
 use Rattle.lsp_places.specs.declared.page.Page.{Page}
