@@ -6,10 +6,11 @@ use Rattle.lsp_places.specs.declared.page.Page.{Page}
 use Rattle.lsp_folds.specs.Lines.{AreFolds}
 use Rattle.lsp_answers.specs.declared.colours.Extent.{Extent}
 use Rattle.lsp_answers.specs.declared.aids.Aid.{Aid}
-use Rattle.lsp_answers.specs.declared.aids.Aid.TheVariants.{Colours, Folds, Completion, Remedies}
+use Rattle.lsp_answers.specs.declared.aids.Aid.TheVariants.{Colours, Folds, Completion, Signature, Remedies}
 use Rattle.lsp_answers.specs.Colours.{extent_of, AreTold}
 use Rattle.lsp_answers.specs.Completions.{IsCompleted}
 use Rattle.lsp_answers.specs.Remedies.{AreRemedies}
+use Rattle.lsp_answers.specs.Signatures.{IsSigned}
 
 abbrev pub coloured_by : Option Extent → Option Aid
 coloured_by None = None
@@ -20,6 +21,7 @@ abbrev pub aid_of : List ℕ → Option Aid
 aid_of m =
     if bytes_eq m (codes "textDocument/foldingRange") then Some Folds
     else if bytes_eq m (codes "textDocument/completion") then Some Completion
+    else if bytes_eq m (codes "textDocument/signatureHelp") then Some Signature
     else if bytes_eq m (codes "textDocument/codeAction") then Some Remedies
     else coloured_by (extent_of m)
 
@@ -33,4 +35,5 @@ abbrev pub IsAid : Aid → Page → Data → Data → Type 0
 IsAid (Colours e) page m d = AreTold e page m d
 IsAid Folds page m d = IsFolded page d
 IsAid Completion page m d = IsCompleted page m d
+IsAid Signature page m d = IsSigned page m d
 IsAid Remedies page m d = AreRemedies page m d

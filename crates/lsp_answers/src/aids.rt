@@ -10,6 +10,7 @@ use crate::completions::completed;
 use crate::folds::folds;
 use crate::remedies::remedies;
 use crate::replies::Fault;
+use crate::signatures::signed;
 use lsp_places::page::Page;
 use serde_json::Value;
 use std::alloc::{AllocError, Global};
@@ -23,6 +24,8 @@ pub enum Aid {
     Folds,
     /// What may be typed at a place.
     Completion,
+    /// What is called at a place.
+    Signature,
     /// What mends a refusal.
     Remedies,
 }
@@ -45,6 +48,7 @@ impl Aid {
         match method {
             "textDocument/foldingRange" => Some(Aid::Folds),
             "textDocument/completion" => Some(Aid::Completion),
+            "textDocument/signatureHelp" => Some(Aid::Signature),
             "textDocument/codeAction" => Some(Aid::Remedies),
             _ => coloured_by(Extent::of(method)),
         }
@@ -64,6 +68,7 @@ pub fn aided(
         Aid::Colours(extent) => colours(alloc, page, extent, message),
         Aid::Folds => Ok(Ok(folds(alloc, page)?)),
         Aid::Completion => completed(alloc, page, message),
+        Aid::Signature => signed(alloc, page, message),
         Aid::Remedies => remedies(alloc, page, message),
     }
 }

@@ -12,7 +12,7 @@ use serde_json::Value;
 use std::alloc::{AllocError, Global};
 
 /// The place that a request names.
-fn offset_asked(page: Page<'_>, message: &Value) -> Option<usize>
+pub fn offset_asked(page: Page<'_>, message: &Value) -> Option<usize>
     ensures { result ≡ offset_asked page.entry (view message.now) }
 {
     match message.get("params") {

@@ -12,6 +12,7 @@ mod questions;
 mod remedies;
 mod replies;
 mod server;
+mod signatures;
 mod told;
 
 pub use server::Server;

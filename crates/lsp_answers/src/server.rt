@@ -44,6 +44,7 @@ fn capabilities(alloc: Global, unit: Unit) -> Result<Value, AllocError> {
             "renameProvider": {"prepareProvider": true},
             "foldingRangeProvider": true,
             "completionProvider": {"triggerCharacters": ["."]},
+            "signatureHelpProvider": {"triggerCharacters": ["(", ","]},
             "codeActionProvider": {"codeActionKinds": ["quickfix"]},
             "semanticTokensProvider": {"legend": legend, "full": true, "range": true}
         },
