@@ -36,6 +36,49 @@ def closing(tokens, at, opens, closes):
     return len(tokens)
 
 
+def called_at(text, offset):
+    """The name of what is called where a place stands, whether by `run`, and how many commas lie before the place in the call; or None. The brackets that are open
+    there are kept from the first token on: the number of each, its commas, and whether a statement has ended in it."""
+    tokens, open_brackets = tokens_of(text[:offset]), []
+    for number, token in enumerate(tokens):
+        if token.text in ("(", "[", "{"):
+            open_brackets.append([number, 0, token.text == "{"])
+        elif token.text in (")", "]", "}"):
+            open_brackets = open_brackets[:-1]
+        elif open_brackets:
+            open_brackets[-1][1] += token.text == ","
+            open_brackets[-1][2] |= token.text in (";", "::", "od", "fi")
+    while open_brackets and not open_brackets[-1][2]:
+        number, commas, _ = open_brackets.pop()
+        if tokens[number].text == "(" and number > 1 and is_name(tokens[number - 1]):
+            head = tokens[number - 2].text
+            return None if head in ("proctype", "inline") else (tokens[number - 1].text, head == "run", commas)
+    return None
+
+
+def heading(text, name, word):
+    """The heading of the first definition of a name, and where in it each of its parameters begins and ends; or None."""
+    tokens = tokens_of(text)
+    for number in range(len(tokens) - 2):
+        if [token.text for token in tokens[number:number + 3]] == [word, name, "("]:
+            at, end = tokens[number].at, closing(tokens, number + 2, "(", ")")
+            parts = [[]]
+            for token in tokens[number + 3:end]:
+                if token.text in (",", ";"):
+                    parts.append([])
+                else:
+                    parts[-1].append(token)
+            return text[at:tokens[end].at + 1], [[part[0].at - at, part[-1].at + len(part[-1].text) - at] for part in parts if part]
+    return None
+
+
+def signature(text, offset):
+    """What is called at a place: the heading, its parameters, and the number of the one at the place; or None."""
+    called = called_at(text, offset)
+    found = called and heading(text, called[0], "proctype" if called[1] else "inline")
+    return found and (*found, called[2])
+
+
 class Reading:
     """The names of a text. `inner` are those of inlines and of their parameters, `outer` the others: pairs of a place and a declaration's place, in the
     order in which they are read; `sorts` says of each declaration what it is."""

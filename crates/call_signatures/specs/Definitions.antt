@@ -11,15 +11,15 @@ use Rattle.call_signatures.specs.declared.definitions.Part.{Part}
 abbrev pub word_of : Call → Kind
 word_of c = if c.is_run then kind.Proctype else kind.Inline
 
--- the definition of a name begins these tokens: its word, the name and a `(`
-abbrev pub is_definition : Kind → List ℕ → List Word → Bool
-is_definition k n (u ∷ v ∷ w ∷ ws) = (same_kind u.kind k && bytes_eq v.text n) && same_kind w.kind kind.OpenParen
-is_definition k n ws = false
+-- tokens begin with this name and a `(`
+abbrev pub is_named : List ℕ → List Word → Bool
+is_named n (v ∷ w ∷ ws) = bytes_eq v.text n && same_kind w.kind kind.OpenParen
+is_named n ws = false
 
--- the tokens from the first one on
+-- the tokens from the first definition of a name on: its word, the name and a `(`
 abbrev pub definition : Kind → List ℕ → List Word → List Word
 definition k n [] = []
-definition k n (w ∷ ws) = if is_definition k n (w ∷ ws) then w ∷ ws else definition k n ws
+definition k n (w ∷ ws) = if same_kind w.kind k && is_named n ws then w ∷ ws else definition k n ws
 
 -- how many tokens stand before the first `)`
 abbrev pub count_before : List Word → ℕ

@@ -1,7 +1,7 @@
 //! The definition of what is called, by tokens, and the parts of a text in which its parameters are declared.
 
 ghost use Rattle.std.specs.Prelude.{◌≡◌, ◌++◌, None, take, drop, IfOk, OnOk};
-ghost use Rattle.call_signatures.specs.Definitions.{word_of, is_definition, definition, count_before, end_of, behind_parameters, up_to, heading, separates, grown, listed, parts, parameters};
+ghost use Rattle.call_signatures.specs.Definitions.{word_of, is_named, definition, count_before, end_of, behind_parameters, up_to, heading, separates, grown, listed, parts, parameters};
 
 use crate::calls::Call;
 use pml_token::token::{Kind, Token, same_kind};
@@ -47,16 +47,12 @@ fn behind<'s, 'a>(tokens: &'s [Token<'a>], count: usize) -> &'s [Token<'a>]
     }
 }
 
-/// Whether tokens begin with a definition: its word, a name and a `(`.
-fn is_definition(word: Kind, name: &[u8], tokens: &[Token<'_>]) -> bool
-    ensures { result ≡ is_definition word name.now tokens.now }
+/// Whether tokens begin with this name and a `(`.
+fn is_named(name: &[u8], tokens: &[Token<'_>]) -> bool
+    ensures { result ≡ is_named name.now tokens.now }
 {
     match tokens {
-        [first, second, third, ..] => {
-            same_kind(first.kind(), word)
-                && second.text() == name
-                && same_kind(third.kind(), Kind::OpenParen)
-        }
+        [first, second, ..] => { first.text() == name && same_kind(second.kind(), Kind::OpenParen) }
         _ => false,
     }
 }
@@ -66,10 +62,9 @@ pub fn definition<'s, 'a>(tokens: &'s [Token<'a>], name: &[u8], call: Call) -> &
     ensures { result.now ≡ definition (word_of call) name.now tokens.now }
 {
     let word = word_of(call);
-    for i in 0..tokens.len() {
-        let rest = behind(tokens, i);
-        if is_definition(word, name, rest) {
-            return rest;
+    for (i, token) in tokens.iter().enumerate() {
+        if same_kind(token.kind(), word) && is_named(name, behind(tokens, i + 1)) {
+            return behind(tokens, i);
         }
     }
     behind(tokens, tokens.len())
