@@ -30,6 +30,11 @@
   (stand text more)
   (mapconcat (lambda (item) (plist-get item :label)) (plist-get (asked :textDocument/completion) :items) " "))
 
+(defun called (text more)
+  (stand text more)
+  (let ((reply (asked :textDocument/signatureHelp)))
+    (format "%s | %s" (plist-get (elt (plist-get reply :signatures) 0) :label) (plist-get reply :activeParameter))))
+
 (find-file (getenv "MODEL"))
 (out "mode" "%s" major-mode)
 (call-interactively #'eglot)
@@ -68,7 +73,8 @@
 (out "then" "%s" (diagnostics))
 (when (eglot--server-capable :completionProvider)
   (out "fields" "%s" (completed "box.high" 4))
-  (out "proctypes" "%s" (completed "run Sender" 4)))
+  (out "proctypes" "%s" (completed "run Sender" 4))
+  (out "called" "%s" (called "run Sender" 11)))
 (set-buffer-modified-p nil)
 (eglot-shutdown (eglot-current-server))
 (out "end" "shut down")
