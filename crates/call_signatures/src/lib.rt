@@ -3,6 +3,7 @@
 
 mod calls;
 mod definitions;
+pub mod laws;
 
 pub use calls::{Call, call_around};
 pub use definitions::{Part, definition, heading, parameters};

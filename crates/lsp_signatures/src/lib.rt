@@ -39,12 +39,7 @@ fn units_to(page: Page<'_>, from: usize, to: usize) -> usize
 }
 
 /// A parameter, by where it stands in a heading.
-fn parameter(
-    alloc: Global,
-    page: Page<'_>,
-    heading: Part,
-    part: Part,
-) -> Result<Value, AllocError>
+fn parameter(alloc: Global, page: Page<'_>, heading: Part, part: Part) -> Result<Value, AllocError>
     ensures { IfOk result (λ v. view v ≡ parameter_of page.entry heading part) }
 {
     let start = units_to(page, heading.from, part.from);
