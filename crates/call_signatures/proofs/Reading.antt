@@ -8,7 +8,7 @@ use Rattle.pml_token.specs.Word.{same_kind, Word}
 use Rattle.call_signatures.specs.declared.calls.Call.{Call}
 use Rattle.call_signatures.specs.declared.calls.Back.{Back}
 use Rattle.call_signatures.specs.declared.calls.Back.TheVariants.{Within, Opened, Named, Called, Outside}
-use Rattle.call_signatures.specs.Calls.{opens, closes, ends, outside, within, run_of, headed, next, read, called}
+use Rattle.call_signatures.specs.Calls.{opens, closes, ends, outside, within, run_of, next, read, called}
 use Rattle.call_signatures.specs.Arguments.{AreClosed, no_token, token, bracket, AreArguments, no_argument, comma, plain, closed, call_of, CallsAreFound}
 
 -- ---- one token
