@@ -1,6 +1,7 @@
 -- Texts whose names are known, and what is offered in them.
 use Rattle.std.proofs.Common.{◌≡◌, ◌∙◌, ap, subst, ℕ, List, length, take, Option, Some, None, IfOk, IfSome, Ok, Err}
-use Rattle.std.specs.Prelude.{Result}
+use Rattle.std.specs.Prelude.{Result, map, filter}
+use Rattle.serde_json.specs.Data.{Data}
 use Rattle.serde_json.specs.View.{view}
 use Rattle.serde_json.specs.declared.value.Value.{Value}
 use Rattle.pml_token.specs.Word.{Word}
@@ -11,9 +12,16 @@ use Rattle.offered_names.specs.Standing.{stands, nowhere}
 use Rattle.offered_names.specs.Gaps.{gap_start, gap_end, mended}
 use Rattle.lsp_completions.specs.declared.readable.Readable.{Readable}
 use Rattle.lsp_completions.specs.declared.wishes.Place.{Place}
+use Rattle.lsp_completions.specs.Items.{AreWords, word_of, begins_so}
 use Rattle.lsp_completions.specs.Fronts.{typed_in, before_typed}
 use Rattle.lsp_completions.specs.Readables.{IsLengthBehind, IsOf, IsReadable, cut, without}
 use Rattle.lsp_completions.specs.Wishes.{IsList, IsCompletion, offered_there}
+
+-- words of the language that begin as typed
+pub words_by : {L E : Type 0} (typed : List ℕ) (ws : List (List ℕ)) (told : L → List Data) (r : Result L E)
+    → IfOk r (λ l. told l ≡ map word_of (filter (begins_so typed) ws)) → IfOk r (λ l. AreWords typed (told l))
+words_by typed ws told (Err e) h = tt
+words_by typed ws told (Ok l) h = record { words = ws; are = h }
 
 -- a rest that can be cut into tokens
 pub cut_by : (rest : List ℕ) (n : ℕ) (ts us : List Word) → ArePlaced rest ts → us ≡ ts → n ≡ gap_end (length rest) us → IsLengthBehind rest n

@@ -186,13 +186,20 @@ fn front(names: &[Declaration], count: usize) -> &[Declaration]
     }
 }
 
+/// Those of some words that begin as typed.
+fn some_words(alloc: Global, typed: &[u8], some: &[&str]) -> Result<Vec<Value>, AllocError>
+    ensures { IfOk result (λ list. AreWords typed.now (map view list.items)) }
+{
+    words(alloc, typed, some)
+}
+
 /// The words that may stand there.
 fn words_at(alloc: Global, place: Place<'_>) -> Result<Vec<Value>, AllocError>
     ensures { IfOk result (λ list. AreWords place.entry.typed.now (map view list.items)) }
 {
     match place.asked {
-        Asked::Any if place.standing.depth > 0 => words(alloc, place.typed, &IN_A_BODY),
-        Asked::Any => words(alloc, place.typed, &OUTSIDE),
+        Asked::Any if place.standing.depth > 0 => some_words(alloc, place.typed, &IN_A_BODY),
+        Asked::Any => some_words(alloc, place.typed, &OUTSIDE),
         _ => Ok(Vec::new(alloc)),
     }
 }

@@ -1,4 +1,4 @@
-use Rattle.std.proofs.Common.{◌≡◌, ◌-◌, refl, subst, take, List, ℕ}
+use Rattle.std.proofs.Common.{◌≡◌, ◌-◌, refl, subst, take, List, ℕ, arith}
 use Rattle.explain_tokens.specs.Placed.{IsUnplaced}
 use Rattle.lsp_completions.specs.Wishes.{nothing}
 use Rattle.lsp_completions.proofs.Offering.{offered_by}
