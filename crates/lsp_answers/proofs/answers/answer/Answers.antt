@@ -6,19 +6,19 @@ use Rattle.lsp_answers.proofs.answers.answer.Goals as goal
 
 pub told_of-requires : goal.told_of-requires
 told_of-requires c =
-    subst (λ (t : List ℕ). AreMeant t c.in-Some-2.names.now.meant.items) (sym c.page.ensures.text)
-    (held (λ n. AreMeant c.args.document.now.known n.now.meant.items) c.names.result c.in-Some-2.names c.in-Some-2.is c.names.ensures)
+    subst (λ (t : List ℕ). AreMeant t c.in-Some-names.names.now.meant.items) (sym c.page-page.ensures.text)
+    (held (λ n. AreMeant c.args.document.now.known n.now.meant.items) c.names.result c.in-Some-names.names c.in-Some-names.is c.names.ensures)
 
-pub returns-in-Some-2 : goal.returns-in-Some-2
-returns-in-Some-2 c =
-    all_answered_on c.args.question c.args.document.now c.args.unit (view c.args.message.now) c.page.result c.page.ensures.text c.page.ensures.uri
-    c.page.ensures.unit c.told_of.result
-    (answered_by c.args.question c.page.result (view c.args.message.now) (view c.in-Some.parameters.now) c.in-Some-2.names.now (sym c.in-Some.ensures)
+pub returns-in-Some-names : goal.returns-in-Some-names
+returns-in-Some-names c =
+    all_answered_on c.args.question c.args.document.now c.args.unit (view c.args.message.now) c.page-page.result c.page-page.ensures.text c.page-page.ensures.uri
+    c.page-page.ensures.unit c.told_of.result
+    (answered_by c.args.question c.page-page.result (view c.args.message.now) (view c.in-Some.parameters.now) c.in-Some-names.names.now (sym c.in-Some.ensures)
     (told_of-requires c)
     c.told_of.result c.told_of.ensures)
 
 pub returns-in-None : goal.returns-in-None
 returns-in-None c =
-    answered_on c.args.question c.args.document.now c.args.unit (view c.args.message.now) c.page.result c.page.ensures.text c.page.ensures.uri
-    c.page.ensures.unit c.without_names.result
-    (nothing_by c.args.question c.page.result (view c.args.message.now) c.without_names.result c.without_names.ensures)
+    answered_on c.args.question c.args.document.now c.args.unit (view c.args.message.now) c.page-page.result c.page-page.ensures.text c.page-page.ensures.uri
+    c.page-page.ensures.unit c.without_names.result
+    (nothing_by c.args.question c.page-page.result (view c.args.message.now) c.without_names.result c.without_names.ensures)
