@@ -142,7 +142,7 @@ impl Documents {
 
     /// Reads the names of the text of this name, if they were not read yet.
     pub fn read(&mut self, alloc: Global, uri: &str) -> Result<(), AllocError>
-        ensures { length self.new.all.items ≡ length self.old.all.items }
+        ensures { self.new.all.items ≡ self.old.all.items }
     {
         match self.number_of(uri) {
             Some(number) => self.all[number].known.read(alloc),
