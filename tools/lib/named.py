@@ -36,6 +36,49 @@ def closing(tokens, at, opens, closes):
     return len(tokens)
 
 
+def called_at(text, offset):
+    """The name of what is called where a place stands, whether by `run`, and how many commas lie before the place in the call; or None. The brackets that are open
+    there are kept from the first token on: the number of each, its commas, and whether a statement has ended in it."""
+    tokens, open_brackets = tokens_of(text[:offset]), []
+    for number, token in enumerate(tokens):
+        if token.text in ("(", "[", "{"):
+            open_brackets.append([number, 0, token.text == "{"])
+        elif token.text in (")", "]", "}"):
+            open_brackets = open_brackets[:-1]
+        elif open_brackets:
+            open_brackets[-1][1] += token.text == ","
+            open_brackets[-1][2] |= token.text in (";", "::", "od", "fi")
+    while open_brackets and not open_brackets[-1][2]:
+        number, commas, _ = open_brackets.pop()
+        if tokens[number].text == "(" and number > 1 and is_name(tokens[number - 1]):
+            head = tokens[number - 2].text
+            return None if head in ("proctype", "inline") else (tokens[number - 1].text, head == "run", commas)
+    return None
+
+
+def heading(text, name, word):
+    """The heading of the first definition of a name, and where in it each of its parameters begins and ends; or None."""
+    tokens = tokens_of(text)
+    for number in range(len(tokens) - 2):
+        if [token.text for token in tokens[number:number + 3]] == [word, name, "("]:
+            at, end = tokens[number].at, closing(tokens, number + 2, "(", ")")
+            parts = [[]]
+            for token in tokens[number + 3:end]:
+                if token.text in (",", ";"):
+                    parts.append([])
+                else:
+                    parts[-1].append(token)
+            return text[at:tokens[end].at + 1], [[part[0].at - at, part[-1].at + len(part[-1].text) - at] for part in parts if part]
+    return None
+
+
+def signature(text, offset):
+    """What is called at a place: the heading, its parameters, and the number of the one at the place; or None."""
+    called = called_at(text, offset)
+    found = called and heading(text, called[0], "proctype" if called[1] else "inline")
+    return found and (*found, called[2])
+
+
 class Reading:
     """The names of a text. `inner` are those of inlines and of their parameters, `outer` the others: pairs of a place and a declaration's place, in the
     order in which they are read; `sorts` says of each declaration what it is."""
@@ -43,8 +86,8 @@ class Reading:
     def __init__(self, text):
         self.inner, self.outer, self.sorts, self.lengths = [], [], {}, {}
         self.inlines, self.globals, self.fields = {}, {}, {}
-        # the parameters of inlines
-        self.parameters = set()
+        # of each declaration its type; whose it is, by the place of the unit's name; the parameters of inlines; where each unit's body begins and ends
+        self.kinds, self.owners, self.parameters, self.bodies, self.unit = {}, set(), {}, [], None
         self.text = text
         tokens = self.without_inlines(tokens_of(text))
         self.proctypes = {}
@@ -66,7 +109,8 @@ class Reading:
                 last = closing(tokens, end + 1, "{", "}")
                 body = tokens[end + 2:last]
                 self.inlines[name.text] = (name, [p.text for p in parameters], body)
-                self.parameters.update(p.at for p in parameters)
+                self.bodies.append((tokens[at].at, tokens[last].at, name.at))
+                self.parameters.update((p.at, name.at) for p in parameters)
                 self.note(self.inner, name, name.at)
                 self.sorts[name.at] = 12
                 for parameter in parameters:
@@ -117,6 +161,8 @@ class Reading:
         if token.text not in scope:
             scope[token.text] = Declared(token.at, sort, kind)
             self.sorts[token.at] = sort
+            self.kinds[token.at] = kind
+            self.owners.add((token.at, None if scope is self.globals else self.unit))
         self.note(self.outer, token, scope[token.text].at)
 
     def is_declaration(self, tokens, at):
@@ -198,6 +244,7 @@ class Reading:
             if is_name(token) and tokens[at + 1].text == ":" and (at == 0 or tokens[at - 1].text in ("{", ";", "->", "::", ":", "}", "fi", "od")):
                 labels.setdefault(token.text, token.at)
                 self.sorts.setdefault(token.at, 20)
+                self.owners.add((labels[token.text], self.unit))
         at = 0
         while at < len(tokens):
             token = tokens[at]
@@ -228,6 +275,8 @@ class Reading:
                 name, end = tokens[at + 1], closing(tokens, at + 2, "{", "}")
                 self.declare(self.globals, name, 23, None)
                 self.fields[name.text] = scope = {}
+                self.unit = name.at
+                self.bodies.append((tokens[at + 2].at, tokens[end].at, name.at))
                 inside, within = at + 3, tokens[:end]
                 while inside < end:
                     start = self.is_declaration(within, inside)
@@ -245,6 +294,8 @@ class Reading:
                 opens = next(number for number in range(end, len(tokens)) if tokens[number].text == "{")
                 last = closing(tokens, opens, "{", "}")
                 scope, inside, within = {}, at + 3, tokens[:end]
+                self.unit = name.at
+                self.bodies.append((token.at, tokens[last].at, name.at))
                 while inside < end:
                     start = self.is_declaration(within, inside)
                     inside = self.variables(within, start, scope, 13, self.globals) if start is not None else inside + 1
@@ -254,6 +305,8 @@ class Reading:
                 self.note(self.outer, token, token.at)
                 opens = next(number for number in range(at, len(tokens)) if tokens[number].text == "{")
                 last = closing(tokens, opens, "{", "}")
+                self.unit = token.at
+                self.bodies.append((token.at, tokens[last].at, token.at))
                 self.body(tokens[opens + 1:last], {})
                 at = last + 1
             elif kind is not None:
@@ -275,6 +328,50 @@ class Reading:
 
     def places_of(self, declared):
         return sorted({a for a, d in self.inner + self.outer if d == declared})
+
+    def spelled(self, at):
+        return self.text[at:at + self.lengths[at]]
+
+    def unit_at(self, offset):
+        """The place of the name of the unit in which a place stands."""
+        return next((name for start, end, name in self.bodies if start < offset <= end), None)
+
+    def of_unit(self, unit, sorts):
+        """What a unit, or the text for None, declares of these sorts."""
+        return {at for at, owner in self.owners if owner == unit and self.sorts[at] in sorts} | {
+            at for at, owner in self.parameters.items() if owner == unit and 13 in sorts} | ({at for at in self.inline_names() if 12 in sorts} if unit is None else set())
+
+    def inline_names(self):
+        return {name.at for name, _, _ in self.inlines.values()}
+
+    def offered(self, offset):
+        """The names that may stand at a place of which the text is read: a set, or None where that is not said here."""
+        front = tokens_of(self.text[:offset])
+        typed = ""
+        if front and front[-1].kind == "name" and front[-1].at + len(front[-1].text) == offset:
+            typed = front.pop().text
+        last, unit = front[-1].text if front else "", self.unit_at(offset)
+        if last == "run":
+            found = self.of_unit(None, {5})
+        elif last == "goto":
+            found = self.of_unit(unit, {20})
+        elif last == ".":
+            if unit in self.inline_names():
+                return None
+            return {name for name in self.fields_before(front[:-1]) if name.startswith(typed)}
+        else:
+            found = {at for at in self.of_unit(None, {13, 22, 23, 12}) if at < offset}
+            found |= {at for at in self.of_unit(unit, {13}) if at < offset} if unit is not None else set()
+        return {self.spelled(at) for at in found if self.spelled(at).startswith(typed)}
+
+    def fields_before(self, front):
+        """The fields of the reference that stands last among tokens."""
+        depth = 0
+        while front and (depth or front[-1].text == "]"):
+            depth += (front[-1].text == "]") - (front[-1].text == "[")
+            front = front[:-1]
+        declared = self.declared_at(front[-1].at) if front else []
+        return self.fields.get(self.kinds.get(declared[0]), {}) if declared else {}
 
     def colours(self):
         """Each token that is coloured, in the order of the text: its place, its length, and the kinds that it may have."""

@@ -1,16 +1,18 @@
 -- What is answered to questions.
-use Rattle.std.proofs.Common.{◌≡◌, refl, subst, List, ℕ, codes, Option, Some, IfOk, IfSome, Ok, Err}
+use Rattle.std.proofs.Common.{◌≡◌, refl, subst, List, ℕ, codes, string_bytes, Option, Some, IfOk, IfSome, Ok, Err}
 use Rattle.std.specs.Prelude.{Result}
 use Rattle.serde_json.specs.Find.{get}
 use Rattle.serde_json.specs.View.{view}
 use Rattle.serde_json.specs.declared.value.Value.{Value}
 use Rattle.model_names.specs.Told.{AreMeant}
-use Rattle.serde_json.specs.Data.{Data}
+use Rattle.serde_json.specs.Data.{Data, null}
+use Rattle.text_places.specs.declared.Unit as counting
 use Rattle.model_names.specs.declared.names.Names.{Names}
 use Rattle.lsp_places.specs.declared.page.Page.{Page}
+use Rattle.lsp_answers.specs.declared.documents.Document.{Document}
 use Rattle.lsp_answers.specs.declared.questions.Question.{Question}
 use Rattle.lsp_answers.specs.declared.questions.Question.TheVariants.{Definition, References, Highlights, Hover, Symbols, Target, Rename}
-use Rattle.lsp_answers.specs.Questions.{IsToldThere, IsToldAt, IsToldOf, IsAnswer, by_names}
+use Rattle.lsp_answers.specs.Questions.{IsToldThere, IsToldAt, IsToldOf, IsAnswer, nothing, by_names, IsAnswerOn}
 
 -- a question that is no rename
 pub told_there : (q : Question) (page : Page) (names : Names) (ps d : Data) → (q ≡ Rename → ⊥) → IsToldThere q page names ps d → IsToldAt q page names ps d
@@ -32,8 +34,9 @@ told_at Symbols page names ps d other h = absurd (other refl)
 told_at Target page names ps d other h = h
 told_at Rename page names ps d other h = h
 
-pub meant_by : (text : List ℕ) (o : Option Names) (names : Names) → o ≡ Some names → IfSome o (λ n. AreMeant text n.meant.items) → AreMeant text names.meant.items
-meant_by text o names is h = subst (λ (x : Option Names). IfSome x (λ n. AreMeant text n.meant.items)) is h
+-- what holds of what is there
+pub held : {A : Type 0} (P : A → Type 0) (o : Option A) (a : A) → o ≡ Some a → IfSome o P → P a
+held {A} P o a is h = subst (λ (x : Option A). IfSome x P) is h
 
 -- what is told of the names of a text is an answer
 pub answered_by : {E F : Type 0} (q : Question) (page : Page) (m ps : Data) (names : Names) → get (codes "params") m ≡ Some ps
@@ -42,3 +45,21 @@ pub answered_by : {E F : Type 0} (q : Question) (page : Page) (m ps : Data) (nam
 answered_by q page m ps names asked meant (Err e) h = tt
 answered_by q page m ps names asked meant (Ok (Err f)) h = tt
 answered_by q page m ps names asked meant (Ok (Ok v)) h = by_names ps names asked meant h
+
+-- where a text has no names
+pub nothing_by : {F : Type 0} (q : Question) (page : Page) (m : Data) (r : Result Value F) → IfOk r (λ v. view v ≡ null) → IfOk r (λ v. IsAnswer q page m (view v))
+nothing_by q page m (Err f) h = tt
+nothing_by q page m (Ok v) h = nothing h
+
+-- the page of a document is answered of
+pub answered_on : {F : Type 0} (q : Question) (d : Document) (u : counting.Unit) (m : Data) (page : Page) → page.text.now ≡ d.known
+    → page.uri.now ≡ string_bytes d.uri → page.unit ≡ u → (r : Result Value F) → IfOk r (λ v. IsAnswer q page m (view v))
+    → IfOk r (λ v. IsAnswerOn q d u m (view v))
+answered_on q d u m page t n c (Err f) h = tt
+answered_on q d u m page t n c (Ok v) h = record { page = page; text_is = t; uri_is = n; unit_is = c; is_answer = h }
+
+pub all_answered_on : {E F : Type 0} (q : Question) (d : Document) (u : counting.Unit) (m : Data) (page : Page) → page.text.now ≡ d.known
+    → page.uri.now ≡ string_bytes d.uri → page.unit ≡ u → (r : Result (Result Value F) E) → IfOk r (λ a. IfOk a (λ v. IsAnswer q page m (view v)))
+    → IfOk r (λ a. IfOk a (λ v. IsAnswerOn q d u m (view v)))
+all_answered_on q d u m page t n c (Err e) h = tt
+all_answered_on q d u m page t n c (Ok a) h = answered_on q d u m page t n c a h

@@ -1,8 +1,10 @@
 -- Messages of a language server as values of JSON (JSON-RPC 2.0).
-use Rattle.std.specs.Prelude.{◌≡◌, ℕ, ℤ, List, [], Option, Some, None, codes, option_and_then}
+use Rattle.std.specs.Prelude.{◌≡◌, ℕ, ℤ, nat_eq, Bool, not, if◌then◌else◌, List, [], length, Option, Some, None, codes, option_and_then}
 use Rattle.std.specs.Option.{option_map_or}
 use Rattle.serde_json.specs.Data.{Data, string, object, member, no_members}
 use Rattle.serde_json.specs.Find.{get, as_str, pointer}
+use Rattle.lsp_answers.specs.declared.replies.Fault.{Fault}
+use Rattle.lsp_answers.specs.declared.replies.Fault.TheVariants.{NoRequest, NotInitialized, ShutDown, NoMethod}
 
 -- the number by which a request is known, or its text; a notification has none
 abbrev pub id_of : Data → Option Data
@@ -20,6 +22,11 @@ refusal_of id fault = object (member (codes "error") fault (member (codes "id") 
 abbrev pub RepliesTo : Data → Option Data → Type 0
 RepliesTo message None = id_of message ≡ None
 RepliesTo message (Some reply) = (id : Data) × (id_of message ≡ Some id) × (id_of reply ≡ Some id)
+
+-- what stands in the way of an answer to a request of this method
+abbrev pub fault_by : List ℕ → Bool → Bool → Fault
+fault_by m is_ready is_shut =
+    if nat_eq (length m) 0 then NoRequest else if not is_ready then NotInitialized else if is_shut then ShutDown else NoMethod
 
 -- the text at a path, or an empty one
 abbrev pub text_at : List ℕ → Data → List ℕ

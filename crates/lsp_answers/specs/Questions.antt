@@ -4,6 +4,7 @@ use Rattle.std.specs.Option.{option_map_or}
 use Rattle.std.specs.Str.{bytes_eq}
 use Rattle.serde_json.specs.Data.{Data, null}
 use Rattle.serde_json.specs.Find.{get, as_bool}
+use Rattle.text_places.specs.declared.Unit as counting
 use Rattle.text_places.specs.Offsets.{offset_of}
 use Rattle.model_names.specs.declared.names.Names.{Names}
 use Rattle.model_names.specs.Told.{AreMeant}
@@ -71,3 +72,11 @@ pub data IsAnswer (q : Question) (page : Page) (m d : Data) : Type 0 where
   nothing : d ≡ null → IsAnswer q page m d
   by_names : (ps : Data) (names : Names) → get (codes "params") m ≡ Some ps
       → AreMeant page.text.now names.meant.items → IsToldOf q page names ps d → IsAnswer q page m d
+
+-- A text that is open is asked of as its editor knows it.
+pub record IsAnswerOn (q : Question) (d : Document) (u : counting.Unit) (m v : Data) : Type 0 where
+  pub page : Page
+  pub text_is : page.text.now ≡ d.known
+  pub uri_is : page.uri.now ≡ string_bytes d.uri
+  pub unit_is : page.unit ≡ u
+  pub is_answer : IsAnswer q page m v

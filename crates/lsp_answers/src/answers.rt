@@ -5,8 +5,9 @@ ghost use Rattle.serde_json.specs.Data.{null};
 ghost use Rattle.serde_json.specs.View.{view};
 ghost use Rattle.model_names.specs.Told.{AreMeant};
 ghost use Rattle.lsp_renames.specs.Renames.{IsRename};
-ghost use Rattle.lsp_answers.specs.Questions.{offset_in, has_declaration, IsTold, IsToldAt, IsToldOf, IsAnswer};
+ghost use Rattle.lsp_answers.specs.Questions.{offset_in, has_declaration, IsTold, IsToldAt, IsToldOf, IsAnswerOn};
 
+use crate::documents::Document;
 use crate::questions::Question;
 use crate::replies::Fault;
 use lsp_names::hover::hover;
@@ -15,14 +16,14 @@ use lsp_names::symbols::symbols;
 use lsp_places::asked::{place_in, text_in};
 use lsp_places::page::Page;
 use lsp_renames::renames::{rename, target};
-use model_names::{Names, names_of};
+use model_names::Names;
 use model_renames::renaming::NoRenaming;
 use serde_json::Value;
 use std::alloc::{AllocError, Global};
-use text_places::offset_of;
+use text_places::{Unit, offset_of};
 
 /// The place of a text that a request asks of.
-fn offset_in(page: Page<'_>, parameters: &Value) -> Option<usize>
+pub fn offset_in(page: Page<'_>, parameters: &Value) -> Option<usize>
     ensures { result ≡ offset_in page.entry (view parameters.now) }
 {
     let Some(position) = parameters.get("position") else {
@@ -134,20 +135,22 @@ fn without_names(question: Question) -> Result<Value, Fault>
     }
 }
 
-/// What is answered to a question on a text.
+/// What is answered to a question on a text that is open, by its names, if they were read.
 pub fn answer(
     alloc: Global,
-    page: Page<'_>,
+    document: &Document,
+    unit: Unit,
     question: Question,
     message: &Value,
 ) -> Result<Result<Value, Fault>, AllocError>
-    ensures { IfOk result (λ r. IfOk r (λ v. IsAnswer question page.entry (view message.now) (view v))) }
+    ensures { IfOk result (λ r. IfOk r (λ v. IsAnswerOn question document.now unit (view message.now) (view v))) }
 {
     let Some(parameters) = message.get("params") else {
         return Ok(Err(Fault::NoPlace));
     };
-    match names_of(alloc, page.text)? {
-        Some(names) => told_of(alloc, page, &names, question, parameters),
+    let page = document.page(unit);
+    match document.known.names() {
+        Some(names) => told_of(alloc, page, names, question, parameters),
         None => Ok(without_names(question)),
     }
 }

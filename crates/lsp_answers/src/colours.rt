@@ -66,7 +66,7 @@ fn part_within(page: Page<'_>, range: &Value) -> Option<Part>
 }
 
 /// The part of a text that a request names.
-fn part_in(page: Page<'_>, parameters: &Value) -> Option<Part>
+pub fn part_in(page: Page<'_>, parameters: &Value) -> Option<Part>
     ensures { result ≡ part_in page.entry (view parameters.now) }
 {
     match parameters.get("range") {

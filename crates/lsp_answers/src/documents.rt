@@ -4,6 +4,7 @@ ghost use Rattle.std.specs.Prelude.{◌≡◌, ◌<◌, [], length, string_bytes
 ghost use Rattle.lsp_answers.specs.Questions.{is_named};
 ghost use Rattle.lsp_places.specs.Changes.{all_changed};
 
+use kept_names::KeptNames;
 use lsp_places::changes::all_changed;
 use lsp_places::page::Page;
 use serde_json::Value;
@@ -17,7 +18,8 @@ const MOST_DOCUMENTS: usize = 256;
 #[derive(Drop)]
 pub struct Document {
     pub uri: String,
-    pub text: Vec<u8>,
+    /// The text, with its names once they were read.
+    pub known: KeptNames,
     /// The number that the client gives this state of the text.
     pub version: Option<i64>,
     /// Whether it is still to be told what is wrong with it.
@@ -33,13 +35,13 @@ impl Document {
 
     /// The text as its editor knows it.
     pub fn page(&self, unit: Unit) -> Page<'_>
-        ensures text { result.text.now ≡ self.now.text.items }
+        ensures text { result.text.now ≡ self.now.known }
         ensures uri { result.uri.now ≡ string_bytes self.now.uri }
         ensures unit { result.unit ≡ unit }
     {
         Page {
             uri: self.uri.as_str(),
-            text: self.text.as_slice(),
+            text: self.known.text(),
             unit,
         }
     }
@@ -52,13 +54,14 @@ impl Document {
         version: Option<i64>,
         changes: &[Value],
     ) -> Result<Document, AllocError>
-        ensures text { IfOk result (λ d. d.text.items ≡ all_changed unit self.text.items changes.now) }
+        ensures text { IfOk result (λ d. d.known ≡ all_changed unit self.known changes.now) }
         ensures uri { IfOk result (λ d. string_bytes d.uri ≡ string_bytes self.uri) }
     {
-        let Document { uri, text, .. } = self;
+        let Document { uri, known, .. } = self;
+        let text = all_changed(alloc, unit, known.into_text(), changes)?;
         Ok(Document {
             uri,
-            text: all_changed(alloc, unit, text, changes)?,
+            known: KeptNames::new(text),
             version,
             is_new: true,
         })
@@ -105,7 +108,7 @@ impl Documents {
     ) -> Result<(), AllocError> {
         let document = Document {
             uri: String::from_str(alloc, uri)?,
-            text: Vec::from_slice(alloc, text.as_bytes())?,
+            known: KeptNames::new(Vec::from_slice(alloc, text.as_bytes())?),
             version,
             is_new: true,
         };
@@ -135,6 +138,16 @@ impl Documents {
             }
         }
         None
+    }
+
+    /// Reads the names of the text of this name, if they were not read yet.
+    pub fn read(&mut self, alloc: Global, uri: &str) -> Result<(), AllocError>
+        ensures { self.new.all.items ≡ self.old.all.items }
+    {
+        match self.number_of(uri) {
+            Some(number) => self.all[number].known.read(alloc),
+            None => Ok(()),
+        }
     }
 
     /// Changes the text of this name, if it is kept.

@@ -3,10 +3,10 @@
 ghost use Rattle.std.specs.Prelude.{◌≡◌, true, codes, Some, IfOk, option_map};
 ghost use Rattle.serde_json.specs.Find.{get};
 ghost use Rattle.serde_json.specs.View.{view};
-ghost use Rattle.lsp_answers.specs.Messages.{RepliesTo};
+ghost use Rattle.lsp_answers.specs.Messages.{fault_by, RepliesTo};
 
+use crate::aids::{Aid, aided};
 use crate::answers::answer;
-use crate::colours::{Extent, colours};
 use crate::documents::Documents;
 use crate::fields::{lists, text_at};
 use crate::questions::Question;
@@ -42,6 +42,10 @@ fn capabilities(alloc: Global, unit: Unit) -> Result<Value, AllocError> {
             "hoverProvider": true,
             "documentSymbolProvider": true,
             "renameProvider": {"prepareProvider": true},
+            "foldingRangeProvider": true,
+            "completionProvider": {"triggerCharacters": ["."]},
+            "signatureHelpProvider": {"triggerCharacters": ["(", ","]},
+            "codeActionProvider": {"codeActionKinds": ["quickfix"]},
             "semanticTokensProvider": {"legend": legend, "full": true, "range": true}
         },
         "serverInfo": {"name": "spinlsp", "version": "0.9.0"}
@@ -82,7 +86,9 @@ impl Server {
     }
 
     // What stands in the way of an answer.
-    fn fault_of(&self, method: &str) -> Fault {
+    fn fault_of(&self, method: &str) -> Fault
+        ensures { result ≡ fault_by method.now self.now.is_ready self.now.is_shut }
+    {
         if method.is_empty() {
             Fault::NoRequest
         } else if !self.is_ready {
@@ -116,8 +122,8 @@ impl Server {
             if let Some(question) = Question::of(method) {
                 return self.answered(alloc, id, question, message);
             }
-            if let Some(extent) = Extent::of(method) {
-                return self.coloured(alloc, id, extent, message);
+            if let Some(aid) = Aid::of(method) {
+                return self.aided(alloc, id, aid, message);
             }
         }
         refused(alloc, id, self.fault_of(method))
@@ -125,7 +131,7 @@ impl Server {
 
     // Answers a question on a text, if that is open.
     fn answered(
-        &self,
+        &mut self,
         alloc: Global,
         id: &Value,
         question: Question,
@@ -134,21 +140,22 @@ impl Server {
         ensures { IfOk result (λ v. get (codes "id") (view v) ≡ Some (view id.now)) }
     {
         let uri = text_at(message, "/params/textDocument/uri");
+        self.documents.read(alloc, uri)?;
         let Some(document) = self.documents.find(uri) else {
             return refused(alloc, id, Fault::NotOpen);
         };
-        match answer(alloc, document.page(self.unit), question, message)? {
+        match answer(alloc, document, self.unit, question, message)? {
             Ok(what) => reply(alloc, id, &what),
             Err(fault) => refused(alloc, id, fault),
         }
     }
 
-    // Answers what colours a text, if that is open.
-    fn coloured(
+    // Answers what helps one to read or write a text, if that is open.
+    fn aided(
         &self,
         alloc: Global,
         id: &Value,
-        extent: Extent,
+        aid: Aid,
         message: &Value,
     ) -> Result<Value, AllocError>
         ensures { IfOk result (λ v. get (codes "id") (view v) ≡ Some (view id.now)) }
@@ -157,7 +164,7 @@ impl Server {
         let Some(document) = self.documents.find(uri) else {
             return refused(alloc, id, Fault::NotOpen);
         };
-        match colours(alloc, document.page(self.unit), extent, message)? {
+        match aided(alloc, document.page(self.unit), aid, message)? {
             Ok(what) => reply(alloc, id, &what),
             Err(fault) => refused(alloc, id, fault),
         }

@@ -6,9 +6,10 @@ ghost use Rattle.source_lines.specs.Places.{shown_offset};
 ghost use Rattle.lsp_places.specs.Places.{range_of};
 
 use crate::documents::Document;
+use all_verdicts::verdicts_of;
 use itoa::Buffer;
 use lsp_places::page::{Page, range};
-use model_verdicts::{Verdict, verdict_of};
+use model_verdicts::Verdict;
 use serde_json::{Value, json};
 use source_lines::position::shown_offset;
 use std::alloc::{AllocError, Global};
@@ -49,15 +50,14 @@ fn diagnostic(alloc: Global, page: Page<'_>, verdict: &Verdict) -> Result<Value,
     json!(in alloc; {"range": range, "severity": 1, "code": code, "source": "spinplay", "message": words})
 }
 
-/// All that is wrong with a text.
+/// All that is told of what is wrong with a text.
 fn diagnostics(alloc: Global, page: Page<'_>) -> Result<Value, AllocError> {
-    match verdict_of(alloc, page.text)? {
-        Some(verdict) => {
-            let one = diagnostic(alloc, page, &verdict)?;
-            json!(in alloc; [one])
-        }
-        None => json!(in alloc; []),
+    let verdicts = verdicts_of(alloc, page.text)?;
+    let mut list = Vec::new(alloc);
+    for verdict in &verdicts {
+        list.push(diagnostic(alloc, page, verdict)?)?;
     }
+    Ok(Value::Array(list))
 }
 
 fn published(

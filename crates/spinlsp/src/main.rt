@@ -13,7 +13,7 @@ const HELP: &str = "\
 A language server for Promela (LSP 3.17), which an editor starts: it reads
 messages from standard input and answers on standard output. It tells of each
 text that is open whether spinplay plays it, and if not, why and where; where
-its names are declared and used; and it renames them.
+its names are declared and used, and what may be typed; and it renames them.
 
 Usage: spinlsp [OPTIONS]
 

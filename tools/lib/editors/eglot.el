@@ -26,6 +26,15 @@
                                (format "%d:%d" (line-number-at-pos marker) (1+ (save-excursion (goto-char marker) (current-column)))))))
              found " "))
 
+(defun completed (text more)
+  (stand text more)
+  (mapconcat (lambda (item) (plist-get item :label)) (plist-get (asked :textDocument/completion) :items) " "))
+
+(defun called (text more)
+  (stand text more)
+  (let ((reply (asked :textDocument/signatureHelp)))
+    (format "%s | %s" (plist-get (elt (plist-get reply :signatures) 0) :label) (plist-get reply :activeParameter))))
+
 (find-file (getenv "MODEL"))
 (out "mode" "%s" major-mode)
 (call-interactively #'eglot)
@@ -62,6 +71,10 @@
   (out "rename" "%s" (mapconcat #'identity (nreverse found) " | ")))
 (asked :textDocument/hover)
 (out "then" "%s" (diagnostics))
+(when (eglot--server-capable :completionProvider)
+  (out "fields" "%s" (completed "box.high" 4))
+  (out "proctypes" "%s" (completed "run Sender" 4))
+  (out "called" "%s" (called "run Sender" 11)))
 (set-buffer-modified-p nil)
 (eglot-shutdown (eglot-current-server))
 (out "end" "shut down")

@@ -39,6 +39,21 @@ local function asked(method)
   end
 end
 
+local function completed(text, more)
+  stand(text, more)
+  local reply, found = asked('textDocument/completion'), {}
+  for _, item in ipairs(reply and reply.items or {}) do
+    found[#found + 1] = item.label
+  end
+  return table.concat(found, ' ')
+end
+
+local function called(text, more)
+  stand(text, more)
+  local reply = asked('textDocument/signatureHelp')
+  return reply and string.format('%s | %d', reply.signatures[1].label, reply.activeParameter) or 'none'
+end
+
 local function drive()
   wait(function() return next(vim.lsp.buf_get_clients(0)) ~= nil end)
   wait(function() return asked('textDocument/documentSymbol') ~= nil end)
@@ -88,6 +103,11 @@ local function drive()
   out('rename', table.concat(lines, ' | '))
   wait(function() return asked('textDocument/hover') ~= nil end)
   out('then', diagnostics())
+  if next(vim.lsp.buf_get_clients(0)) and vim.lsp.get_active_clients()[1].server_capabilities.completionProvider then
+    out('fields', completed('box.high', 4))
+    out('proctypes', completed('run Sender', 4))
+    out('called', called('run Sender', 11))
+  end
   vim.cmd('qa!')
 end
 

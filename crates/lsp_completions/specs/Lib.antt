@@ -1,0 +1,4 @@
+pub mod Fronts
+pub mod Items
+pub mod Readables
+pub mod Wishes

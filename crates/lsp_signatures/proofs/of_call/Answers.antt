@@ -1,0 +1,12 @@
+use Rattle.std.proofs.Common.{refl}
+use Rattle.lsp_signatures.specs.Help.{uncut}
+use Rattle.lsp_signatures.proofs.Helping.{defined_by}
+use Rattle.lsp_signatures.proofs.of_call.Goals as goal
+
+pub returns-in-Err : goal.returns-in-Err
+returns-in-Err c = uncut c.in-Err.field-0 c.in-Err.ensures.err refl
+
+pub returns : goal.returns
+returns c =
+    defined_by c.args.page c.args.call c.name_in.result.now c.in-Ok.tokens.items c.deref.result.now c.definition-definition.result.now c.help_by.result
+    c.in-Ok.ensures.ok c.deref.ensures.value c.name_in.ensures c.definition-definition.ensures c.help_by.ensures

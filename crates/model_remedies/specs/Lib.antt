@@ -1,0 +1,3 @@
+pub mod Exchanged
+pub mod Causes
+pub mod Better
