@@ -13,13 +13,14 @@ use crate::writing::PageFile;
 use devices::Source;
 use program_files::reading::ReadChoices;
 use program_files::telling::tell_misfit;
+use promela_run::moves::Move;
 use rand_pcg::Pcg32;
 use session::Answer;
 use std::io;
 use view_foreign::escaped::add_escaped;
 use view_json::lines::add_start;
 use view_page::page::{Contents, add_page};
-use view_run::lines::{Sheet, add_next};
+use view_run::lines::{Sheet, add_next, add_next_of};
 use view_run::next::is_misfit;
 use view_run::plain::run;
 use view_run::steps::add_step;
@@ -178,8 +179,8 @@ fn run_chart(
     write_chart(rt, walk, replay, ran.most, ran.end)
 }
 
-// Writes the line of a state with which lines begin.
-pub fn begin(walk: &Walk<'_, '_>, asked: &Asked, sheet: &mut Sheet) -> Result<(), NoView> {
+// Writes the line of a state with which lines begin. The moves of that state.
+pub fn begin(walk: &Walk<'_, '_>, asked: &Asked, sheet: &mut Sheet) -> Result<Vec<Move>, NoView> {
     let moves = walk.moves()?;
     let picture = picture_of(walk.world());
     add_start(
@@ -190,7 +191,7 @@ pub fn begin(walk: &Walk<'_, '_>, asked: &Asked, sheet: &mut Sheet) -> Result<()
         &mut sheet.shown,
         &mut sheet.lines,
     )?;
-    Ok(())
+    Ok(moves)
 }
 
 // Takes the steps before those whose lines are wanted. Why the run ends on the way, where it does: then its last lines are there.
@@ -213,12 +214,14 @@ fn skip<S: Source>(
     Ok(None)
 }
 
-// Goes behind the steps whose lines are not wanted, and writes the line of the state there, and the last lines of a run that ends on the way. Why it does.
-pub fn begin_behind<S: Source>(
+// Goes behind the steps whose lines are not wanted, and writes the line of the state there, and the last lines of a run that ends on the way. Why it does;
+// the moves of that state are given back.
+fn begin_behind<S: Source>(
     rt: &HostRuntime,
     walk: &mut Walk<'_, '_>,
     replay: &mut Replay<S>,
     asked: &Asked,
+    moves: &mut Vec<Move>,
     sheet: &mut Sheet,
 ) -> Result<Option<&'static str>, NoView>
     ensures { SameModel walk.old walk.new }
@@ -228,23 +231,27 @@ pub fn begin_behind<S: Source>(
     last.join(&sheet.lines);
     sheet.lines.clear();
     sheet.show_anew();
-    begin(walk, asked, sheet)?;
+    *moves = begin(walk, asked, sheet)?;
     sheet.lines.join(&last);
-    flush(rt, true, sheet)?;
     Ok(end)
 }
 
-// Writes what there is of the lines, where they are not kept for a page.
-fn flush(rt: &HostRuntime, is_kept: bool, sheet: &mut Sheet) -> Result<(), NoView> {
+// Writes the lines that there are, where they are not kept for a page.
+fn put_out(rt: &HostRuntime, is_kept: bool, sheet: &mut Sheet) -> Result<(), NoView> {
     if sheet.lines.is_refused() || sheet.items.is_refused() {
         return Err(NoView::Memory);
     }
-    if !is_kept && sheet.lines.len() > AT_ONCE {
+    if !is_kept {
         show_lines(rt, &sheet.lines)?;
         sheet.lines.clear();
         sheet.items.clear();
     }
     Ok(())
+}
+
+// The same, where there are many.
+fn flush(rt: &HostRuntime, is_kept: bool, sheet: &mut Sheet) -> Result<(), NoView> {
+    put_out(rt, is_kept || sheet.lines.len() <= AT_ONCE, sheet)
 }
 
 // Takes steps until a walk has so many, or goes no further, and writes each. Why it goes no further.
@@ -266,6 +273,67 @@ pub fn go_on<S: Source>(
         }
     }
     Ok("step limit")
+}
+
+// Takes the first step from a state with these moves and writes it. Why the run ends there, where it does.
+fn go_first<S: Source>(
+    walk: &mut Walk<'_, '_>,
+    moves: Vec<Move>,
+    replay: &mut Replay<S>,
+    limit: usize,
+    sheet: &mut Sheet,
+) -> Result<Option<&'static str>, NoView>
+    ensures { SameModel walk.old walk.new }
+{
+    Ok(add_next_of(walk, moves.as_slice(), replay, limit, sheet)?)
+}
+
+// Takes steps from a state with these moves, as `go_on`.
+fn go_from<S: Source>(
+    rt: &HostRuntime,
+    walk: &mut Walk<'_, '_>,
+    moves: Vec<Move>,
+    replay: &mut Replay<S>,
+    limit: usize,
+    is_kept: bool,
+    sheet: &mut Sheet,
+) -> Result<&'static str, NoView>
+    ensures { SameModel walk.old walk.new }
+{
+    let end = go_first(walk, moves, replay, limit, sheet)?;
+    flush(rt, is_kept, sheet)?;
+    match end {
+        Some(end) => Ok(end),
+        None => go_on(rt, walk, replay, limit, is_kept, sheet),
+    }
+}
+
+// Writes the lines of a run: that of the state with which they begin, at once where they are not kept for a page, and those of its steps. Why it ends.
+pub fn run_lines<S: Source>(
+    rt: &HostRuntime,
+    walk: &mut Walk<'_, '_>,
+    replay: &mut Replay<S>,
+    asked: &Asked,
+    is_kept: bool,
+    sheet: &mut Sheet,
+) -> Result<&'static str, NoView>
+    ensures { SameModel walk.old walk.new }
+{
+    let mut moves = Vec::new(rt.alloc());
+    let end = begin_behind(rt, walk, replay, asked, &mut moves, sheet)?;
+    put_out(rt, is_kept, sheet)?;
+    match end {
+        Some(end) => Ok(end),
+        None => go_from(
+            rt,
+            walk,
+            moves,
+            replay,
+            asked.limit as usize,
+            is_kept,
+            sheet,
+        ),
+    }
 }
 
 // Writes the page of a run.
@@ -305,11 +373,7 @@ fn run_sheet(
     ensures { SameModel walk.old walk.new }
 {
     let mut sheet = sheet_of(rt, replay);
-    let limit = asked.limit as usize;
-    let end = match begin_behind(rt, walk, replay, asked, &mut sheet)? {
-        Some(end) => end,
-        None => go_on(rt, walk, replay, limit, page.is_some(), &mut sheet)?,
-    };
+    let end = run_lines(rt, walk, replay, asked, page.is_some(), &mut sheet)?;
     if asked.form == Form::Json {
         show_lines(rt, &sheet.lines)?;
     }

@@ -1,11 +1,16 @@
 -- What was written of moves, and is written again of the next that does the same.
 use Rattle.std.specs.Prelude.{◌≡◌, ℕ, false, List, codes}
+use Rattle.promela_run.specs.declared.moves.Pick.{Pick}
+use Rattle.promela_run.specs.declared.moves.Move.TheVariants.{Alone, Pair}
 use Rattle.promela_run.specs.State.{State}
-use Rattle.view_json.specs.declared.choice.Deal.{Deal}
+use Rattle.view_json.specs.declared.deal.Deal.{Deal}
+use Rattle.view_json.specs.declared.single.Single.{Single}
+use Rattle.view_json.specs.declared.couple.Couple.{Couple}
 use Rattle.view_json.specs.declared.choice.Before.{Before}
 use Rattle.view_json.specs.Objects.{detail}
 use Rattle.view_json.specs.Lines.{Dealing, dealing}
-use Rattle.view_json.specs.Known.{Knows}
+use Rattle.view_json.specs.Choices.{Effect, choice}
+use Rattle.view_json.specs.Known.{Knows, IsOf, of_pick}
 
 -- what some move does with a message is written, and words for that, unless memory is refused
 pub record Deals (s : State) (d : Deal) : Type 0 where
@@ -14,8 +19,26 @@ pub record Deals (s : State) (d : Deal) : Type 0 where
   pub done : d.done.refused ≡ false → d.done.tokens ≡ dealing s deals
   pub effect : d.effect.refused ≡ false → d.effect.tokens ≡ detail (codes "effect") words
 
+-- a move of one process is written, whether `timeout` was true or not
+pub record Tells (s : State) (l : Single) : Type 0 where
+  pub first : Knows s l.first
+  pub effect : Effect
+  pub whole : l.whole.refused ≡ false → l.whole.tokens ≡ choice s (Alone l.first.pick false) effect
+
+-- so is a rendezvous
+pub record Meets (s : State) (l : Couple) : Type 0 where
+  pub first : Knows s l.first
+  pub partner : Knows s l.partner
+  pub deal : Deals s l.deal
+  pub effect : Effect
+  pub whole : l.whole.refused ≡ false → l.whole.tokens ≡ choice s (Pair l.first.pick l.partner.pick false) effect
+
+-- what was written of the processes of a rendezvous is of the offers that these picks name
+pub record AreSame (s : State) (k j : Pick) (l : Couple) : Type 0 where
+  pub first : IsOf s (of_pick k l.first)
+  pub partner : IsOf s (of_pick j l.partner)
+
 -- what was written is of this state
 pub record Goes (s : State) (b : Before) : Type 0 where
-  pub first : Knows s b.first
-  pub partner : Knows s b.partner
-  pub deal : Deals s b.deal
+  pub alone : Tells s b.alone
+  pub pair : Meets s b.pair

@@ -1,10 +1,13 @@
 //! A run as lines of JSON: one for the first state, one a step, one for the end. A state is the fold of the lines.
 #![tactic(auto)]
 
+mod actor;
 mod changed;
 pub mod channel;
 pub mod choice;
 pub mod counted;
+mod couple;
+mod deal;
 mod known;
 pub mod laws;
 pub mod lines;
@@ -12,6 +15,7 @@ mod list;
 pub mod objects;
 mod past;
 pub mod process;
+mod single;
 pub mod start;
 pub mod steps;
 mod texts;
