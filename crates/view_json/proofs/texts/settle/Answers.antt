@@ -2,7 +2,7 @@ use Rattle.std.proofs.Common.{◌∙◌, sym, subst}
 use Rattle.promela_run.specs.State.{State}
 use Rattle.view_json.specs.Texts.{TellsMove}
 use Rattle.view_json.proofs.Alike.{same_text}
-use Rattle.view_json.proofs.texts.line_of.Goals as goal
+use Rattle.view_json.proofs.texts.settle.Goals as goal
 
 pub returns-then-are_same-clause-written : goal.returns-then-are_same-clause-written
 returns-then-are_same-clause-written c =

@@ -4,7 +4,7 @@ use Rattle.promela_run.specs.World.{move_text}
 use Rattle.view_tokens.specs.Printed.{Printed}
 use Rattle.view_json.specs.Objects.{text}
 use Rattle.view_json.proofs.Alike.{line_text}
-use Rattle.view_json.proofs.texts.line_anew.Goals as goal
+use Rattle.view_json.proofs.texts.renew.Goals as goal
 
 pub returns-clause-written : goal.returns-clause-written
 returns-clause-written c = λ calm.

@@ -1,0 +1,1 @@
+use Rattle.view_json.proofs.couple.is_same.Goals as goal

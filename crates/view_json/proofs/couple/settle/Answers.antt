@@ -1,0 +1,1 @@
+use Rattle.view_json.proofs.couple.settle.Goals as goal

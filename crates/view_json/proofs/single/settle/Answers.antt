@@ -1,0 +1,14 @@
+use Rattle.std.proofs.Common.{◌∙◌}
+use Rattle.view_json.proofs.Alike.{alike_is, alike_calm, same_single}
+use Rattle.view_json.proofs.single.settle.Goals as goal
+
+pub returns-then-is_same-clause-tells : goal.returns-then-is_same-clause-tells
+returns-then-is_same-clause-tells c =
+    let s = c.args.picture.now in
+    let first = c.args.last.now.first in
+    let same = c.is_same.ensures c.if-is_same.true in
+    let of = alike_is s first c.args.pick _ c.seen_at-seen.ensures c.requires.first same in record {
+      first = λ calm. of;
+      effect = c.requires.effect;
+      whole = λ calm. c.requires.whole calm ∙ same_single s first c.args.pick c.requires.effect (c.requires.first (alike_calm first c.args.pick.process _ same)) of;
+    }
