@@ -1,16 +1,16 @@
 -- What was written of moves, and is written again of the next that does the same.
-use Rattle.std.specs.Prelude.{◌≡◌, ℕ, false, List, codes}
-use Rattle.promela_run.specs.declared.moves.Pick.{Pick}
+use Rattle.std.specs.Prelude.{◌≡◌, ℕ, false, All, List, codes}
 use Rattle.promela_run.specs.declared.moves.Move.TheVariants.{Alone, Pair}
 use Rattle.promela_run.specs.State.{State}
 use Rattle.view_json.specs.declared.deal.Deal.{Deal}
 use Rattle.view_json.specs.declared.single.Single.{Single}
 use Rattle.view_json.specs.declared.couple.Couple.{Couple}
+use Rattle.view_json.specs.declared.couple.Meeting.{Meeting}
 use Rattle.view_json.specs.declared.choice.Before.{Before}
 use Rattle.view_json.specs.Objects.{detail}
 use Rattle.view_json.specs.Lines.{Dealing, dealing}
 use Rattle.view_json.specs.Choices.{Effect, choice}
-use Rattle.view_json.specs.Known.{Knows, IsOf, of_pick}
+use Rattle.view_json.specs.Known.{Knows, IsSeen}
 
 -- what some move does with a message is written, and words for that, unless memory is refused
 pub record Deals (s : State) (d : Deal) : Type 0 where
@@ -33,12 +33,12 @@ pub record Meets (s : State) (l : Couple) : Type 0 where
   pub effect : Effect
   pub whole : l.whole.refused ≡ false → l.whole.tokens ≡ choice s (Pair l.first.pick l.partner.pick false) effect
 
--- what was written of the processes of a rendezvous is of the offers that these picks name
-pub record AreSame (s : State) (k j : Pick) (l : Couple) : Type 0 where
-  pub first : IsOf s (of_pick k l.first)
-  pub partner : IsOf s (of_pick j l.partner)
+-- the offers of a rendezvous are seen as they are
+pub record AreSeen (s : State) (of : Meeting) : Type 0 where
+  pub first : IsSeen s of.sender of.first
+  pub partner : IsSeen s of.receiver of.partner
 
--- what was written is of this state
+-- what was written of the last moves is of this state
 pub record Goes (s : State) (b : Before) : Type 0 where
-  pub alone : Tells s b.alone
-  pub pair : Meets s b.pair
+  pub alone : All (Tells s) b.alone.all.items
+  pub pair : All (Meets s) b.pair.all.items

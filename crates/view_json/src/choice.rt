@@ -6,22 +6,22 @@ ghost use Rattle.promela_run.specs.State.{State};
 ghost use Rattle.view_json.specs.Choices.{AddsChoice, AddsChoices, ListsChoices};
 ghost use Rattle.view_json.specs.Before.{Goes};
 
-use crate::couple::{Couple, add_pair};
+use crate::couples::{Couples, add_pair};
 use crate::deal::effect_of;
 use crate::lines::{ending, transfer};
 use crate::list::Listing;
-use crate::single::{Single, add_alone};
-use promela_run::moves::{Move, Pick};
+use crate::singles::{Singles, add_alone};
+use promela_run::moves::Move;
 use std::alloc::Global;
 use view_cells::picture::Picture;
 use view_tokens::tokens::Json;
 use view_waits::transfer::{Transfer, transfer_of};
 
-// What was written of the moves before: of the last of one process, and of the last rendezvous.
+// What was written of the moves before: of those of one process, and of rendezvous.
 #[derive(Drop)]
 struct Before {
-    alone: Single,
-    pair: Couple,
+    alone: Singles,
+    pair: Couples,
 }
 
 impl Before {
@@ -29,14 +29,9 @@ impl Before {
     fn new(alloc: Global) -> Before
         ensures { (s : State) → Goes s result }
     {
-        let none = Pick {
-            process: 0,
-            level: 0,
-            place: 0,
-        };
         Before {
-            alone: Single::new(alloc, none),
-            pair: Couple::new(alloc, none),
+            alone: Singles::new(alloc),
+            pair: Couples::new(alloc),
         }
     }
 }

@@ -6,11 +6,11 @@ ghost use Rattle.promela_run.specs.State.{State};
 ghost use Rattle.view_tokens.specs.Printed.{Writes};
 ghost use Rattle.view_json.specs.Objects.{member, object};
 ghost use Rattle.view_json.specs.Choices.{actor, AddsChoice};
-ghost use Rattle.view_json.specs.Known.{Knows, of_pick};
-ghost use Rattle.view_json.specs.Before.{Deals, Meets, AreSame};
+ghost use Rattle.view_json.specs.Known.{Knows, alike, of_pick};
+ghost use Rattle.view_json.specs.Before.{Deals, Meets, AreSeen};
 
 use crate::deal::{Deal, deal};
-use crate::known::{Known, is_known, know, seen_at};
+use crate::known::{Known, Seen, is_alike, know};
 use promela_run::moves::Pick;
 use std::alloc::Global;
 use view_cells::picture::Picture;
@@ -19,10 +19,20 @@ use view_tokens::tokens::Json;
 /// What was written of a rendezvous, from its sender, its receiver, and what it does.
 #[derive(Drop)]
 pub(crate) struct Couple {
-    first: Known,
-    partner: Known,
+    pub first: Known,
+    pub partner: Known,
     deal: Deal,
     whole: Json,
+}
+
+/// A sender and a receiver, whether `timeout` is true, and the offers of both.
+#[derive(Clone, Copy)]
+pub(crate) struct Meeting<'p> {
+    pub sender: Pick,
+    pub receiver: Pick,
+    pub is_late: bool,
+    pub first: Seen<'p>,
+    pub partner: Seen<'p>,
 }
 
 impl Couple {
@@ -41,21 +51,23 @@ impl Couple {
     }
 }
 
-// Whether a rendezvous has the same object.
-fn is_same(
-    picture: &Picture<'_, '_, '_>,
-    sender: Pick,
-    receiver: Pick,
-    is_late: bool,
-    last: &Couple,
-) -> bool
-    requires { Meets picture.now last.now }
-    ensures { result ≡ true → AreSame picture.now sender receiver last.now }
+/// Whether what was written is of the same processes, at offers that are seen so.
+pub(crate) fn are_alike(last: &Couple, of: Meeting<'_>) -> bool
+    ensures first { result ≡ true → alike last.now.first of.entry.sender.process of.entry.first ≡ true }
+    ensures partner { result ≡ true → alike last.now.partner of.entry.receiver.process of.entry.partner ≡ true }
 {
-    !last.whole.is_refused()
-        && is_known(picture, sender, &last.first)
-        && is_known(picture, receiver, &last.partner)
-        && last.deal.is_of(picture, sender, receiver, is_late)
+    is_alike(&last.partner, of.receiver.process, of.partner)
+        && is_alike(&last.first, of.sender.process, of.first)
+}
+
+// Whether a rendezvous has the same object.
+fn is_same(picture: &Picture<'_, '_, '_>, of: Meeting<'_>, last: &Couple) -> bool
+    ensures first { result ≡ true → alike last.now.first of.entry.sender.process of.entry.first ≡ true }
+    ensures partner { result ≡ true → alike last.now.partner of.entry.receiver.process of.entry.partner ≡ true }
+{
+    are_alike(last, of)
+        && !last.whole.is_refused()
+        && last.deal.is_of(picture, of.sender, of.receiver, of.is_late)
 }
 
 // Writes the receiver of a rendezvous.
@@ -91,26 +103,16 @@ fn write(
 }
 
 // Writes a rendezvous anew.
-fn renew(
-    picture: &Picture<'_, '_, '_>,
-    sender: Pick,
-    receiver: Pick,
-    is_late: bool,
-    last: &mut Couple,
-)
-    requires { Meets picture.now last.old }
+fn renew(picture: &Picture<'_, '_, '_>, of: Meeting<'_>, last: &mut Couple)
+    requires meets { Meets picture.now last.old }
+    requires seen { AreSeen picture.now of }
     ensures meets { Meets picture.now last.new }
-    ensures sender { last.new.first.pick ≡ sender }
-    ensures receiver { last.new.partner.pick ≡ receiver }
+    ensures sender { last.new.first.pick ≡ of.entry.sender }
+    ensures receiver { last.new.partner.pick ≡ of.entry.receiver }
 {
-    know(picture, sender, seen_at(picture, sender), &mut last.first);
-    know(
-        picture,
-        receiver,
-        seen_at(picture, receiver),
-        &mut last.partner,
-    );
-    deal(picture, sender, receiver, is_late, &mut last.deal);
+    know(picture, of.sender, of.first, &mut last.first);
+    know(picture, of.receiver, of.partner, &mut last.partner);
+    deal(picture, of.sender, of.receiver, of.is_late, &mut last.deal);
     last.whole.clear();
     write(
         picture,
@@ -122,49 +124,45 @@ fn renew(
 }
 
 // The same of other picks.
-fn go_on(sender: Pick, receiver: Pick, is_late: bool, last: &mut Couple)
-    ensures { last.new ≡ record last.old { first = of_pick sender last.old.first; partner = of_pick receiver last.old.partner; deal = last.new.deal } }
+fn go_on(of: Meeting<'_>, last: &mut Couple)
+    ensures first { last.new.first ≡ of_pick of.entry.sender last.old.first }
+    ensures partner { last.new.partner ≡ of_pick of.entry.receiver last.old.partner }
     ensures done { last.new.deal.done ≡ last.old.deal.done }
     ensures effect { last.new.deal.effect ≡ last.old.deal.effect }
+    ensures whole { last.new.whole ≡ last.old.whole }
 {
-    last.first.pick = sender;
-    last.partner.pick = receiver;
-    last.deal.go_on(sender, is_late);
+    last.first.pick = of.sender;
+    last.partner.pick = of.receiver;
+    last.deal.go_on(of.sender, of.is_late);
 }
 
 // Writes a rendezvous, where it is not the same as before.
-fn settle(
-    picture: &Picture<'_, '_, '_>,
-    sender: Pick,
-    receiver: Pick,
-    is_late: bool,
-    last: &mut Couple,
-)
-    requires { Meets picture.now last.old }
+fn settle(picture: &Picture<'_, '_, '_>, of: Meeting<'_>, last: &mut Couple)
+    requires meets { Meets picture.now last.old }
+    requires seen { AreSeen picture.now of }
     ensures meets { Meets picture.now last.new }
-    ensures sender { last.new.first.pick ≡ sender }
-    ensures receiver { last.new.partner.pick ≡ receiver }
+    ensures sender { last.new.first.pick ≡ of.entry.sender }
+    ensures receiver { last.new.partner.pick ≡ of.entry.receiver }
 {
-    if is_same(picture, sender, receiver, is_late, last) {
-        go_on(sender, receiver, is_late, last);
+    if is_same(picture, of, last) {
+        go_on(of, last);
         return;
     }
-    renew(picture, sender, receiver, is_late, last);
+    renew(picture, of, last);
 }
 
 /// Writes a rendezvous, where this was written before.
-pub(crate) fn add_pair(
+pub(crate) fn add_couple(
     picture: &Picture<'_, '_, '_>,
     json: &mut Json,
-    sender: Pick,
-    receiver: Pick,
-    is_late: bool,
+    of: Meeting<'_>,
     last: &mut Couple,
 )
-    requires { Meets picture.now last.old }
-    ensures choice { AddsChoice picture.now (Pair sender receiver is_late) json.old json.new }
+    requires meets { Meets picture.now last.old }
+    requires seen { AreSeen picture.now of }
+    ensures choice { AddsChoice picture.now (Pair of.entry.sender of.entry.receiver of.entry.is_late) json.old json.new }
     ensures meets { Meets picture.now last.new }
 {
-    settle(picture, sender, receiver, is_late, last);
+    settle(picture, of, last);
     json.join(&last.whole);
 }

@@ -4,7 +4,7 @@ ghost use Rattle.std.specs.Prelude.{◌≡◌, [], true, slice_get, Some};
 ghost use Rattle.run_state.specs.Standing.{stand_of};
 ghost use Rattle.view_waits.specs.Offers.{offered_line};
 ghost use Rattle.view_json.specs.Choices.{next_line};
-ghost use Rattle.view_json.specs.Known.{Knows, IsOf, IsSeen, alike, of_pick, whole_text};
+ghost use Rattle.view_json.specs.Known.{Knows, IsSeen, alike, whole_text};
 
 use crate::actor::{actor, line_at_seat};
 use pml_program::program::{Action, Basic};
@@ -141,17 +141,6 @@ pub(crate) fn is_alike(known: &Known, process: usize, seen: Seen<'_>) -> bool
         && known.line == seen.line
         && known.next == seen.next
         && known.text.as_slice() == seen.text
-}
-
-/// Whether what was written is of the offer that a pick names.
-pub(crate) fn is_known(picture: &Picture<'_, '_, '_>, pick: Pick, known: &Known) -> bool
-    requires { Knows picture.now known.now }
-    ensures { result ≡ true → IsOf picture.now (of_pick pick known.now) }
-{
-    if known.pick == pick {
-        return !known.written.is_refused();
-    }
-    is_alike(known, pick.process, seen_at(picture, pick))
 }
 
 // Writes a process at an offer anew.

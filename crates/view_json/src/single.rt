@@ -8,7 +8,7 @@ ghost use Rattle.view_json.specs.Known.{Knows, IsSeen, alike};
 ghost use Rattle.view_json.specs.Before.{Tells};
 
 use crate::deal::{does_same, effect_of, no_transfer};
-use crate::known::{Known, Seen, is_alike, know, seen_at};
+use crate::known::{Known, Seen, is_alike, know};
 use crate::lines::transfer;
 use promela_run::moves::{Move, Pick};
 use std::alloc::Global;
@@ -19,7 +19,7 @@ use view_waits::transfer::{Transfer, transfer_of};
 /// What was written of a move, from its process and what it does with a message.
 #[derive(Drop)]
 pub(crate) struct Single {
-    first: Known,
+    pub first: Known,
     done: Transfer,
     whole: Json,
 }
@@ -91,12 +91,18 @@ fn renew(
 }
 
 // Writes a move, where it is not the same as before.
-fn settle(picture: &Picture<'_, '_, '_>, pick: Pick, is_late: bool, last: &mut Single)
-    requires { Tells picture.now last.old }
+fn settle(
+    picture: &Picture<'_, '_, '_>,
+    pick: Pick,
+    is_late: bool,
+    seen: Seen<'_>,
+    last: &mut Single,
+)
+    requires tells { Tells picture.now last.old }
+    requires seen { IsSeen picture.now pick seen }
     ensures tells { Tells picture.now last.new }
     ensures pick { last.new.first.pick ≡ pick }
 {
-    let seen = seen_at(picture, pick);
     if is_same(picture, pick, is_late, seen, last) {
         last.first.pick = pick;
         return;
@@ -105,17 +111,19 @@ fn settle(picture: &Picture<'_, '_, '_>, pick: Pick, is_late: bool, last: &mut S
 }
 
 /// Writes a move, where this was written before.
-pub(crate) fn add_alone(
+pub(crate) fn add_single(
     picture: &Picture<'_, '_, '_>,
     json: &mut Json,
     pick: Pick,
     is_late: bool,
+    seen: Seen<'_>,
     last: &mut Single,
 )
-    requires { Tells picture.now last.old }
+    requires tells { Tells picture.now last.old }
+    requires seen { IsSeen picture.now pick seen }
     ensures choice { AddsChoice picture.now (Alone pick is_late) json.old json.new }
     ensures tells { Tells picture.now last.new }
 {
-    settle(picture, pick, is_late, last);
+    settle(picture, pick, is_late, seen, last);
     json.join(&last.whole);
 }

@@ -1,8 +1,9 @@
-//! The texts of moves, each as a string: that of a move before is written again where the next has the same.
+//! The texts of moves, each as a string, written again where it was among the last few.
 
-ghost use Rattle.std.specs.Prelude.{◌≡◌, ◌<◌, Bool, true, false, [], length};
+ghost use Rattle.std.specs.Prelude.{◌≡◌, ◌<◌, Bool, true, false, [], All, length};
 ghost use Rattle.promela_run.specs.declared.moves.Move.TheVariants.{Alone, Pair};
 ghost use Rattle.std.specs.List.{flat_map};
+ghost use Rattle.promela_run.specs.State.{State};
 ghost use Rattle.promela_run.specs.World.{move_text};
 ghost use Rattle.view_tokens.specs.Printed.{Writes};
 ghost use Rattle.view_json.specs.Objects.{text};
@@ -10,6 +11,7 @@ ghost use Rattle.view_json.specs.Texts.{Reads, TellsMove, IsLine, same_parts};
 
 use crate::known::text_at;
 use crate::objects::whole;
+use crate::singles::{MOST, behind};
 use promela_run::moves::{Move, Pick};
 use run_state::live::Live;
 use run_texts::texts::add_move;
@@ -161,43 +163,148 @@ fn renew(
     keep(parts, last);
 }
 
-// Writes the text of a move, where it is not the same as before.
-fn settle(picture: &Picture<'_, '_, '_>, m: Move, last: &mut Line, memory: &mut Writer)
-    requires { Reads picture.now last.old }
+// Writes the text of a move that has these parts, where it is not the same as before.
+fn settle(
+    picture: &Picture<'_, '_, '_>,
+    m: Move,
+    parts: Parts<'_>,
+    last: &mut Line,
+    memory: &mut Writer,
+)
+    requires reads { Reads picture.now last.old }
+    requires tells { TellsMove picture.now m parts }
     ensures reads { Reads picture.now last.new }
     ensures written { last.new.written.refused ≡ false → last.new.written.tokens ≡ text (move_text picture.now m) }
 {
-    let live = picture.live();
-    let parts = parts_of(live, m);
     if are_same(last, &parts) {
         return;
     }
     renew(picture, m, parts, last, memory);
 }
 
-// Writes the text of a move, where this was written before.
-fn add_text(
+// Writes the text of a move that has these parts, where this was written before.
+fn add_line(
     picture: &Picture<'_, '_, '_>,
     json: &mut Json,
     m: Move,
+    parts: Parts<'_>,
     last: &mut Line,
     memory: &mut Writer,
 )
-    requires { Reads picture.now last.old }
+    requires reads { Reads picture.now last.old }
+    requires tells { TellsMove picture.now m parts }
     ensures reads { Reads picture.now last.new }
     ensures written { Writes json.old json.new (text (move_text picture.now m)) }
 {
-    settle(picture, m, last, memory);
+    settle(picture, m, parts, last, memory);
     json.join(&last.written);
+}
+
+// The texts that were written last, the place of the last of all, and memory for one more.
+#[derive(Drop)]
+struct Lines {
+    all: Vec<Line>,
+    at: usize,
+    memory: Writer,
+}
+
+impl Lines {
+    // None yet.
+    fn new(alloc: Global) -> Lines
+        ensures { result.all.items ≡ [] }
+    {
+        Lines {
+            all: Vec::new(alloc),
+            at: 0,
+            memory: Writer::new(alloc),
+        }
+    }
+}
+
+// Whether what stands at a place has these parts.
+fn is_at(all: &[Line], at: usize, parts: &Parts<'_>) -> bool {
+    match all.get(at) {
+        Some(line) => are_same(line, parts),
+        None => false,
+    }
+}
+
+// The place of a text that has these parts: first that of the last of all is asked.
+fn place_of(all: &[Line], last: usize, parts: &Parts<'_>) -> Option<usize> {
+    if is_at(all, last, parts) {
+        return Some(last);
+    }
+    for at in 0..all.len() {
+        if is_at(all, at, parts) {
+            return Some(at);
+        }
+    }
+    None
+}
+
+// A place for one more: a new one, or where there are enough that of the one that was written first.
+fn make_place(last: &mut Lines) -> usize
+    ensures { (s : State) → All (Reads s) last.old.all.items → All (Reads s) last.new.all.items }
+{
+    let len = last.all.len();
+    if len < MOST {
+        let one = Line::new(*last.all.allocator());
+        let _ = last.all.push(one);
+        return len;
+    }
+    behind(last.at, len)
+}
+
+// The place for a text that has these parts.
+fn place_for(parts: &Parts<'_>, last: &mut Lines) -> usize
+    ensures { (s : State) → All (Reads s) last.old.all.items → All (Reads s) last.new.all.items }
+{
+    match place_of(last.all.as_slice(), last.at, parts) {
+        Some(at) => at,
+        None => make_place(last),
+    }
+}
+
+// Writes the text of a move that has these parts at a place.
+fn add_at(
+    picture: &Picture<'_, '_, '_>,
+    json: &mut Json,
+    m: Move,
+    parts: Parts<'_>,
+    at: usize,
+    last: &mut Lines,
+)
+    requires read { All (Reads picture.now) last.old.all.items }
+    requires tells { TellsMove picture.now m parts }
+    ensures read { All (Reads picture.now) last.new.all.items }
+    ensures written { Writes json.old json.new (text (move_text picture.now m)) }
+{
+    last.at = at;
+    if at < last.all.len() {
+        add_line(picture, json, m, parts, &mut last.all[at], &mut last.memory);
+    } else {
+        json.refuse();
+    }
+}
+
+// Writes the text of a move, where this was written before.
+fn add_text(picture: &Picture<'_, '_, '_>, json: &mut Json, m: Move, last: &mut Lines)
+    requires { All (Reads picture.now) last.old.all.items }
+    ensures read { All (Reads picture.now) last.new.all.items }
+    ensures written { Writes json.old json.new (text (move_text picture.now m)) }
+{
+    let live = picture.live();
+    let parts = parts_of(live, m);
+    let at = place_for(&parts, last);
+    add_at(picture, json, m, parts, at, last);
 }
 
 /// Writes the texts of moves.
 pub(crate) fn move_texts(picture: &Picture<'_, '_, '_>, json: &mut Json, moves: &[Move])
     ensures { Writes json.old json.new (flat_map (λ m. text (move_text picture.now m)) moves.now) }
 {
-    let mut memory = Writer::new(json.allocator());
-    let mut last = Line::new(json.allocator());
+    let mut last = Lines::new(json.allocator());
     for m in moves {
-        add_text(picture, json, *m, &mut last, &mut memory);
+        add_text(picture, json, *m, &mut last);
     }
 }

@@ -3,7 +3,7 @@ use Rattle.promela_run.specs.declared.moves.Pick.{Pick}
 use Rattle.promela_run.specs.declared.moves.Move.TheVariants.{Alone}
 use Rattle.view_tokens.specs.Printed.{Writes}
 use Rattle.view_json.specs.Choices.{choice}
-use Rattle.view_json.proofs.single.add_alone.Goals as goal
+use Rattle.view_json.proofs.single.add_single.Goals as goal
 
 pub returns-clause-choice : goal.returns-clause-choice
 returns-clause-choice c =

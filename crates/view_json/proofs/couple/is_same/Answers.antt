@@ -1,1 +1,0 @@
-use Rattle.view_json.proofs.couple.is_same.Goals as goal

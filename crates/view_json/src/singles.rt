@@ -1,0 +1,126 @@
+//! Moves of one process as objects, each written again where it was among the last few.
+
+ghost use Rattle.std.specs.Prelude.{◌≡◌, ◌<◌, [], All, length};
+ghost use Rattle.promela_run.specs.declared.moves.Move.TheVariants.{Alone};
+ghost use Rattle.promela_run.specs.State.{State};
+ghost use Rattle.view_json.specs.Choices.{AddsChoice};
+ghost use Rattle.view_json.specs.Known.{IsSeen};
+ghost use Rattle.view_json.specs.Before.{Tells};
+
+use crate::known::{Seen, is_alike, seen_at};
+use crate::single::{Single, add_single};
+use promela_run::moves::Pick;
+use std::alloc::Global;
+use view_cells::picture::Picture;
+use view_tokens::tokens::Json;
+
+/// So many are kept.
+pub(crate) const MOST: usize = 8;
+
+/// The last moves that differ, and the place of the last of all.
+#[derive(Drop)]
+pub(crate) struct Singles {
+    all: Vec<Single>,
+    at: usize,
+}
+
+impl Singles {
+    /// None yet.
+    pub fn new(alloc: Global) -> Singles
+        ensures { result.all.items ≡ [] }
+    {
+        Singles {
+            all: Vec::new(alloc),
+            at: 0,
+        }
+    }
+}
+
+// Whether what stands at a place is of the same process, at an offer that is seen so.
+fn is_at(all: &[Single], at: usize, process: usize, seen: Seen<'_>) -> bool {
+    match all.get(at) {
+        Some(one) => is_alike(&one.first, process, seen),
+        None => false,
+    }
+}
+
+// The place of a move that is seen so: first that of the last of all is asked.
+fn place_of(all: &[Single], last: usize, process: usize, seen: Seen<'_>) -> Option<usize> {
+    if is_at(all, last, process, seen) {
+        return Some(last);
+    }
+    for at in 0..all.len() {
+        if is_at(all, at, process, seen) {
+            return Some(at);
+        }
+    }
+    None
+}
+
+/// The place behind another.
+pub(crate) fn behind(at: usize, len: usize) -> usize {
+    if at < len && len - at > 1 { at + 1 } else { 0 }
+}
+
+// A place for one more: a new one, or where there are enough that of the one that was written first.
+fn make_place(pick: Pick, last: &mut Singles) -> usize
+    ensures { (s : State) → All (Tells s) last.old.all.items → All (Tells s) last.new.all.items }
+{
+    let len = last.all.len();
+    if len < MOST {
+        let one = Single::new(*last.all.allocator(), pick);
+        let _ = last.all.push(one);
+        return len;
+    }
+    behind(last.at, len)
+}
+
+// The place for a move that is seen so.
+fn place_for(pick: Pick, seen: Seen<'_>, last: &mut Singles) -> usize
+    ensures { (s : State) → All (Tells s) last.old.all.items → All (Tells s) last.new.all.items }
+{
+    match place_of(last.all.as_slice(), last.at, pick.process, seen) {
+        Some(at) => at,
+        None => make_place(pick, last),
+    }
+}
+
+// Writes a move at a place.
+fn add_at(
+    picture: &Picture<'_, '_, '_>,
+    json: &mut Json,
+    pick: Pick,
+    is_late: bool,
+    seen: Seen<'_>,
+    at: usize,
+    last: &mut Singles,
+)
+    requires tell { All (Tells picture.now) last.old.all.items }
+    requires seen { IsSeen picture.now pick seen }
+    ensures choice { AddsChoice picture.now (Alone pick is_late) json.old json.new }
+    ensures tell { All (Tells picture.now) last.new.all.items }
+{
+    last.at = at;
+    if at < last.all.len() {
+        add_single(picture, json, pick, is_late, seen, &mut last.all[at]);
+    } else {
+        json.refuse();
+    }
+}
+
+/// Writes a move, where this was written before.
+pub(crate) fn add_alone(
+    picture: &Picture<'_, '_, '_>,
+    json: &mut Json,
+    pick: Pick,
+    is_late: bool,
+    last: &mut Singles,
+)
+    requires { All (Tells picture.now) last.old.all.items }
+    ensures choice { AddsChoice picture.now (Alone pick is_late) json.old json.new }
+    ensures tell { All (Tells picture.now) last.new.all.items }
+{
+    let seen = seen_at(picture, pick);
+    let at = place_for(pick, seen, last);
+    add_at(picture, json, pick, is_late, seen, at, last);
+}
