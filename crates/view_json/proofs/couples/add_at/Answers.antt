@@ -1,0 +1,1 @@
+use Rattle.view_json.proofs.couples.add_at.Goals as goal

@@ -1,0 +1,1 @@
+use Rattle.view_json.proofs.couples.make_place.Goals as goal

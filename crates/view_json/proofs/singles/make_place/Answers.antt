@@ -1,0 +1,1 @@
+use Rattle.view_json.proofs.singles.make_place.Goals as goal

@@ -1,0 +1,1 @@
+use Rattle.view_json.proofs.texts.keep.Goals as goal

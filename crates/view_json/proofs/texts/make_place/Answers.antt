@@ -1,0 +1,1 @@
+use Rattle.view_json.proofs.texts.make_place.Goals as goal
