@@ -1,0 +1,1 @@
+use Rattle.view_json.proofs.list.add_moved.Goals as goal
