@@ -25,13 +25,13 @@ struct Before {
 }
 
 impl Before {
-    // Nothing.
-    fn new(alloc: Global) -> Before
+    // Nothing, of so many moves that are to be written.
+    fn new(alloc: Global, count: usize) -> Before
         ensures { (s : State) → Goes s result }
     {
         Before {
-            alone: Singles::new(alloc),
-            pair: Couples::new(alloc),
+            alone: Singles::new(alloc, count),
+            pair: Couples::new(alloc, count),
         }
     }
 }
@@ -76,7 +76,7 @@ fn add_choice(picture: &Picture<'_, '_, '_>, json: &mut Json, m: Move, before: &
 pub fn add_choices(picture: &Picture<'_, '_, '_>, json: &mut Json, moves: &[Move])
     ensures { AddsChoices picture.now moves.now json.old json.new }
 {
-    let mut before = Before::new(json.allocator());
+    let mut before = Before::new(json.allocator(), moves.len());
     for m in moves {
         add_choice(picture, json, *m, &mut before);
     }

@@ -8,7 +8,7 @@ ghost use Rattle.view_json.specs.Before.{Meets, AreSeen};
 
 use crate::couple::{Couple, Meeting, add_couple, are_alike};
 use crate::known::seen_at;
-use crate::singles::{MOST, behind};
+use crate::singles::{behind, most_of};
 use promela_run::moves::Pick;
 use std::alloc::Global;
 use view_cells::picture::Picture;
@@ -19,16 +19,18 @@ use view_tokens::tokens::Json;
 pub(crate) struct Couples {
     all: Vec<Couple>,
     at: usize,
+    most: usize,
 }
 
 impl Couples {
-    /// None yet.
-    pub fn new(alloc: Global) -> Couples
+    /// None yet, of so many that are to be written.
+    pub fn new(alloc: Global, count: usize) -> Couples
         ensures { result.all.items ≡ [] }
     {
         Couples {
             all: Vec::new(alloc),
             at: 0,
+            most: most_of(count),
         }
     }
 }
@@ -59,7 +61,7 @@ fn make_place(pick: Pick, last: &mut Couples) -> usize
     ensures { (s : State) → All (Meets s) last.old.all.items → All (Meets s) last.new.all.items }
 {
     let len = last.all.len();
-    if len < MOST {
+    if len < last.most {
         let one = Couple::new(*last.all.allocator(), pick);
         let _ = last.all.push(one);
         return len;

@@ -14,24 +14,33 @@ use std::alloc::Global;
 use view_cells::picture::Picture;
 use view_tokens::tokens::Json;
 
-/// So many are kept.
-pub(crate) const MOST: usize = 8;
+/// So many are kept of many, and of few just the last.
+const MOST: usize = 8;
+
+const FEW: usize = 64;
+
+/// How many are kept of so many that are to be written.
+pub(crate) fn most_of(count: usize) -> usize {
+    if count > FEW { MOST } else { 1 }
+}
 
 /// The last moves that differ, and the place of the last of all.
 #[derive(Drop)]
 pub(crate) struct Singles {
     all: Vec<Single>,
     at: usize,
+    most: usize,
 }
 
 impl Singles {
-    /// None yet.
-    pub fn new(alloc: Global) -> Singles
+    /// None yet, of so many that are to be written.
+    pub fn new(alloc: Global, count: usize) -> Singles
         ensures { result.all.items ≡ [] }
     {
         Singles {
             all: Vec::new(alloc),
             at: 0,
+            most: most_of(count),
         }
     }
 }
@@ -67,7 +76,7 @@ fn make_place(pick: Pick, last: &mut Singles) -> usize
     ensures { (s : State) → All (Tells s) last.old.all.items → All (Tells s) last.new.all.items }
 {
     let len = last.all.len();
-    if len < MOST {
+    if len < last.most {
         let one = Single::new(*last.all.allocator(), pick);
         let _ = last.all.push(one);
         return len;

@@ -11,7 +11,7 @@ ghost use Rattle.view_json.specs.Texts.{Reads, TellsMove, IsLine, same_parts};
 
 use crate::known::text_at;
 use crate::objects::whole;
-use crate::singles::{MOST, behind};
+use crate::singles::{behind, most_of};
 use promela_run::moves::{Move, Pick};
 use run_state::live::Live;
 use run_texts::texts::add_move;
@@ -205,17 +205,19 @@ fn add_line(
 struct Lines {
     all: Vec<Line>,
     at: usize,
+    most: usize,
     memory: Writer,
 }
 
 impl Lines {
-    // None yet.
-    fn new(alloc: Global) -> Lines
+    // None yet, of so many that are to be written.
+    fn new(alloc: Global, count: usize) -> Lines
         ensures { result.all.items ≡ [] }
     {
         Lines {
             all: Vec::new(alloc),
             at: 0,
+            most: most_of(count),
             memory: Writer::new(alloc),
         }
     }
@@ -247,7 +249,7 @@ fn make_place(last: &mut Lines) -> usize
     ensures { (s : State) → All (Reads s) last.old.all.items → All (Reads s) last.new.all.items }
 {
     let len = last.all.len();
-    if len < MOST {
+    if len < last.most {
         let one = Line::new(*last.all.allocator());
         let _ = last.all.push(one);
         return len;
@@ -303,7 +305,7 @@ fn add_text(picture: &Picture<'_, '_, '_>, json: &mut Json, m: Move, last: &mut 
 pub(crate) fn move_texts(picture: &Picture<'_, '_, '_>, json: &mut Json, moves: &[Move])
     ensures { Writes json.old json.new (flat_map (λ m. text (move_text picture.now m)) moves.now) }
 {
-    let mut last = Lines::new(json.allocator());
+    let mut last = Lines::new(json.allocator(), moves.len());
     for m in moves {
         add_text(picture, json, *m, &mut last);
     }
