@@ -63,8 +63,10 @@ fn make_place(pick: Pick, last: &mut Couples) -> usize
     let len = last.all.len();
     if len < last.most {
         let one = Couple::new(*last.all.allocator(), pick);
-        let _ = last.all.push(one);
-        return len;
+        return match last.all.push(one) {
+            Ok(()) => len,
+            Err(_) => len,
+        };
     }
     behind(last.at, len)
 }

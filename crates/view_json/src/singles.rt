@@ -78,8 +78,10 @@ fn make_place(pick: Pick, last: &mut Singles) -> usize
     let len = last.all.len();
     if len < last.most {
         let one = Single::new(*last.all.allocator(), pick);
-        let _ = last.all.push(one);
-        return len;
+        return match last.all.push(one) {
+            Ok(()) => len,
+            Err(_) => len,
+        };
     }
     behind(last.at, len)
 }

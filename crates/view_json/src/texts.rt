@@ -251,8 +251,10 @@ fn make_place(last: &mut Lines) -> usize
     let len = last.all.len();
     if len < last.most {
         let one = Line::new(*last.all.allocator());
-        let _ = last.all.push(one);
-        return len;
+        return match last.all.push(one) {
+            Ok(()) => len,
+            Err(_) => len,
+        };
     }
     behind(last.at, len)
 }
