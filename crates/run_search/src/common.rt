@@ -50,6 +50,50 @@ fn is_same(one: Seat, other: Seat) -> bool
     one.sort == other.sort && one.node == other.node
 }
 
+/// Whether a process stands there too, as those before it do from the first on.
+#[inline(always)]
+fn is_there(live: &Live<'_, '_>, first: usize, at: usize, seat: Seat) -> bool
+    requires lives { at < length live.now.state.stands }
+    requires before { StandThere live.now.state seat first at }
+    ensures { result ≡ true → StandThere live.now.state seat first (at + 1) }
+{
+    is_same(live.seats()[at], seat)
+}
+
+/// Whether the next four, all older than another, stand there too.
+#[inline(always)]
+fn are_four_there(live: &Live<'_, '_>, first: usize, at: usize, younger: usize, seat: Seat) -> bool
+    requires order { at + 4 ≤ younger }
+    requires lives { younger < length live.now.state.stands }
+    requires before { StandThere live.now.state seat first at }
+    ensures { result ≡ true → StandThere live.now.state seat first (at + 4) }
+{
+    is_there(live, first, at, seat)
+        && is_there(live, first, at + 1, seat)
+        && is_there(live, first, at + 2, seat)
+        && is_there(live, first, at + 3, seat)
+}
+
+/// Passes over those behind a process who stand where it does, by eights: up to whom they do, at most to the youngest.
+#[inline(always)]
+fn behind_eights(live: &Live<'_, '_>, process: usize, youngest: usize, seat: Seat) -> usize
+    requires there { StandThere live.now.state seat process (process + 1) }
+    requires order { process < youngest }
+    requires lives { youngest < length live.now.state.stands }
+    ensures behind { process < result }
+    ensures within { result ≤ youngest }
+    ensures there { StandThere live.now.state seat process result }
+{
+    let mut at = process + 1;
+    while 8 <= youngest - at
+        && are_four_there(live, process, at, youngest, seat)
+        && are_four_there(live, process, at + 4, youngest, seat)
+    {
+        at += 8;
+    }
+    at
+}
+
 /// The next process that stands elsewhere, or the youngest, of whom nothing is known: it may die.
 #[inline(always)]
 pub(crate) fn next_elsewhere(live: &Live<'_, '_>, process: usize, seat: Seat) -> usize
@@ -60,18 +104,16 @@ pub(crate) fn next_elsewhere(live: &Live<'_, '_>, process: usize, seat: Seat) ->
     ensures there { StandThere live.now.state seat process result }
     ensures older { process + 1 < result → result < length live.now.state.stands }
 {
-    let seats = live.seats();
-    let youngest = seats.len() - 1;
-    for at in process + 1..youngest {
-        if !is_same(seats[at], seat) {
+    let youngest = live.process_count() - 1;
+    if process == youngest {
+        return process + 1;
+    }
+    for at in behind_eights(live, process, youngest, seat)..youngest {
+        if !is_there(live, process, at, seat) {
             return at;
         }
     }
-    if process < youngest {
-        youngest
-    } else {
-        process + 1
-    }
+    youngest
 }
 
 /// The same move by another process.
