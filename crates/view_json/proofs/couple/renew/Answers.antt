@@ -1,5 +1,4 @@
-use Rattle.std.proofs.Common.{◌∙◌, ap}
-use Rattle.std.specs.Prelude.{◌++◌}
+use Rattle.std.proofs.Common.{◌∙◌, ap, false, ◌++◌}
 use Rattle.promela_run.specs.declared.moves.Move.TheVariants.{Pair}
 use Rattle.view_tokens.specs.Printed.{Printed}
 use Rattle.view_json.specs.Choices.{choice}
@@ -12,5 +11,5 @@ returns-clause-meets c =
       partner = c.know-2.ensures.knows;
       deal = c.deal.ensures;
       effect = told.0;
-      whole = λ calm. told.1.added calm ∙ ap (λ (j : Printed). j.tokens ++ choice c.args.picture.now (Pair c.know.new.first.pick c.know-2.new.partner.pick false) told.0) c.clear.ensures;
+      whole = λ calm. told.1.added calm ∙ ap (λ (j : Printed). j.tokens ++ choice c.args.picture.now (Pair c.know.new.known.pick c.know-2.new.known.pick false) told.0) c.clear.ensures;
     }

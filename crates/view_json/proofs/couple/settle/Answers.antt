@@ -1,6 +1,4 @@
-use Rattle.std.proofs.Common.{◌≡◌, ◌∙◌, ap, sym, subst, false, ℕ, List}
-use Rattle.std.specs.Prelude.{◌++◌}
-use Rattle.json.specs.Token.{Token}
+use Rattle.std.proofs.Common.{◌∙◌, ap, sym, subst, false}
 use Rattle.view_tokens.specs.Printed.{Printed}
 use Rattle.view_json.specs.declared.known.Known.{Known}
 use Rattle.view_json.specs.Known.{Knows}

@@ -1,5 +1,4 @@
-use Rattle.std.proofs.Common.{◌∙◌, ap, sym}
-use Rattle.std.specs.Prelude.{◌++◌}
+use Rattle.std.proofs.Common.{◌∙◌, ap, sym, ◌++◌}
 use Rattle.promela_run.specs.World.{move_text}
 use Rattle.view_tokens.specs.Printed.{Printed}
 use Rattle.view_json.specs.Objects.{text}

@@ -6,9 +6,9 @@ use Rattle.view_json.proofs.couple.Couple.new.Goals as goal
 
 pub returns : goal.returns
 returns c = λ s. record {
-  first = λ calm. absurd (true≢false (sym c.new-2.ensures.nothing ∙ calm));
-  partner = λ calm. absurd (true≢false (sym c.new-3.ensures.nothing ∙ calm));
-  deal = c.new-4.ensures s;
+  first = λ calm. absurd (true≢false (sym c.new.ensures.nothing ∙ calm));
+  partner = λ calm. absurd (true≢false (sym c.new-2.ensures.nothing ∙ calm));
+  deal = c.new-3.ensures s;
   effect = no_effect;
   whole = λ calm. absurd (true≢false (sym (ap (λ (j : Printed). j.refused) c.refuse.ensures) ∙ calm));
 }

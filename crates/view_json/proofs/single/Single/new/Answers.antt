@@ -6,7 +6,7 @@ use Rattle.view_json.proofs.single.Single.new.Goals as goal
 
 pub returns : goal.returns
 returns c = λ s. record {
-  first = λ calm. absurd (true≢false (sym c.new-2.ensures.nothing ∙ calm));
+  first = λ calm. absurd (true≢false (sym c.new.ensures.nothing ∙ calm));
   effect = no_effect;
   whole = λ calm. absurd (true≢false (sym (ap (λ (j : Printed). j.refused) c.refuse.ensures) ∙ calm));
 }
