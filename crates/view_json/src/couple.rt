@@ -9,7 +9,7 @@ ghost use Rattle.view_json.specs.Choices.{actor, AddsChoice};
 ghost use Rattle.view_json.specs.Known.{Knows, alike, of_pick};
 ghost use Rattle.view_json.specs.Before.{Deals, Meets, AreSeen};
 
-use crate::deal::{Deal, deal};
+use crate::deal::{Deal, keep_deal};
 use crate::known::{Known, Seen, is_alike, know};
 use promela_run::moves::Pick;
 use std::alloc::Global;
@@ -112,7 +112,13 @@ fn renew(picture: &Picture<'_, '_, '_>, of: Meeting<'_>, last: &mut Couple)
 {
     know(picture, of.sender, of.first, &mut last.first);
     know(picture, of.receiver, of.partner, &mut last.partner);
-    deal(picture, of.sender, of.receiver, of.is_late, &mut last.deal);
+    keep_deal(
+        picture,
+        of.sender,
+        of.receiver,
+        of.is_late,
+        &mut last.deal,
+    );
     last.whole.clear();
     write(
         picture,

@@ -134,7 +134,7 @@ fn renew(picture: &Picture<'_, '_, '_>, of: Pick, to: Pick, is_late: bool, last:
 }
 
 /// Writes what a send does, where it is not the same as before.
-pub(crate) fn deal(
+pub(crate) fn keep_deal(
     picture: &Picture<'_, '_, '_>,
     of: Pick,
     to: Pick,

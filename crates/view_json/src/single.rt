@@ -47,7 +47,7 @@ fn is_same(
     seen: Seen<'_>,
     last: &Single,
 ) -> bool
-    ensures { result ≡ true → alike last.first.now pick.process seen.entry ≡ true }
+    ensures { result ≡ true → alike last.now.first pick.process seen.entry ≡ true }
 {
     is_alike(&last.first, pick.process, seen)
         && !last.whole.is_refused()

@@ -11,7 +11,7 @@ returns-clause-choice c =
     let of = c.args.of in
     let told = c.settle.ensures.meets in (
       told.effect,
-      subst (λ (j : Pick). Writes c.args.json.now c.join.new.json (choice s (Pair of.sender j of.is_late) told.effect)) c.settle.ensures.receiver
-          (subst (λ (k : Pick). Writes c.args.json.now c.join.new.json (choice s (Pair k c.settle.new.last.partner.pick of.is_late) told.effect)) c.settle.ensures.sender
+      subst (λ (j : Pick). Writes c.args.json.now c.join.new.self (choice s (Pair of.sender j of.is_late) told.effect)) c.settle.ensures.receiver
+          (subst (λ (k : Pick). Writes c.args.json.now c.join.new.self (choice s (Pair k c.settle.new.last.partner.pick of.is_late) told.effect)) c.settle.ensures.sender
           (c.join.ensures.known _ told.whole)),
     )

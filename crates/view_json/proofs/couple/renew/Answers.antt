@@ -9,7 +9,7 @@ returns-clause-meets c =
     let told = c.write.ensures false in record {
       first = c.know.ensures.knows;
       partner = c.know-2.ensures.knows;
-      deal = c.deal.ensures;
+      deal = c.keep_deal.ensures;
       effect = told.0;
       whole = λ calm. told.1.added calm ∙ ap (λ (j : Printed). j.tokens ++ choice c.args.picture.now (Pair c.know.new.known.pick c.know-2.new.known.pick false) told.0) c.clear.ensures;
     }

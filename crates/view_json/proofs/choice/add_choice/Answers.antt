@@ -1,1 +1,0 @@
-use Rattle.view_json.proofs.choice.add_choice.Goals as goal

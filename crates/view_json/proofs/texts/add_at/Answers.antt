@@ -1,1 +1,0 @@
-use Rattle.view_json.proofs.texts.add_at.Goals as goal

@@ -1,1 +1,0 @@
-use Rattle.view_json.proofs.texts.keep.Goals as goal
