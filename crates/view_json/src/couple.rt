@@ -112,13 +112,7 @@ fn renew(picture: &Picture<'_, '_, '_>, of: Meeting<'_>, last: &mut Couple)
 {
     know(picture, of.sender, of.first, &mut last.first);
     know(picture, of.receiver, of.partner, &mut last.partner);
-    keep_deal(
-        picture,
-        of.sender,
-        of.receiver,
-        of.is_late,
-        &mut last.deal,
-    );
+    keep_deal(picture, of.sender, of.receiver, of.is_late, &mut last.deal);
     last.whole.clear();
     write(
         picture,
