@@ -2,9 +2,10 @@
 ghost use Rattle.std.specs.Prelude.{◌≡◌};
 ghost use Rattle.view_walk.specs.Walks.{SameModel};
 
+use crate::lines::{begin, go_on, run_lines};
 use crate::opened::Files;
 use crate::output::show_lines;
-use crate::runs::{begin, go_on, run_lines, sheet_of, tell_choices, why_unread};
+use crate::runs::{sheet_of, tell_choices, why_unread};
 use crate::shown::without_end;
 use crate::stop::{Device, NoView, failed};
 use devices::SliceSource;

@@ -3,6 +3,7 @@ ghost use Rattle.std.specs.Prelude.{◌≡◌, [], false};
 ghost use Rattle.view_walk.specs.Walks.{SameModel};
 
 use crate::asking::run_asking;
+use crate::lines::run_lines;
 use crate::opened::Files;
 use crate::output::{show, show_lines};
 use crate::serving::run_driven;
@@ -10,31 +11,27 @@ use crate::stop::{Device, NoView};
 use crate::telling::shown_name;
 use crate::trails::Led;
 use crate::writing::PageFile;
-use devices::Source;
 use program_files::reading::ReadChoices;
 use program_files::telling::tell_misfit;
-use promela_run::moves::Move;
 use rand_pcg::Pcg32;
 use session::Answer;
 use std::io;
 use view_foreign::escaped::add_escaped;
-use view_json::lines::add_start;
 use view_page::page::{Contents, add_page};
-use view_run::lines::{Sheet, add_next, add_next_of};
+use view_run::lines::Sheet;
 use view_run::next::is_misfit;
 use view_run::plain::run;
 use view_run::steps::add_step;
 use view_session::charted::{add_chart, most_alive};
 use view_session::notes::Notes;
 use view_session::replay::{Along, Reading, Replay};
-use view_session::seen::picture_of;
 use view_session::told::Told;
 use view_text::writer::Writer;
 use view_walk::walk::Walk;
 use view_words::{Asked, Form};
 
 // So many bytes are written at once.
-const AT_ONCE: usize = 60_000;
+pub const AT_ONCE: usize = 60_000;
 
 // The choices of a run: along a trail, of a file or of standard input, or of a generator.
 fn replay_of(
@@ -177,163 +174,6 @@ fn run_chart(
     let mut printed = Vec::new(rt.alloc());
     let ran = run(walk, replay, limit, &mut printed)?;
     write_chart(rt, walk, replay, ran.most, ran.end)
-}
-
-// Writes the line of a state with which lines begin. The moves of that state.
-pub fn begin(walk: &Walk<'_, '_>, asked: &Asked, sheet: &mut Sheet) -> Result<Vec<Move>, NoView> {
-    let moves = walk.moves()?;
-    let picture = picture_of(walk.world());
-    add_start(
-        &picture,
-        name_of(shown_name(asked)),
-        asked.is_lossy,
-        moves.as_slice(),
-        &mut sheet.shown,
-        &mut sheet.lines,
-    )?;
-    Ok(moves)
-}
-
-// Takes the steps before those whose lines are wanted. Why the run ends on the way, where it does: then its last lines are there.
-fn skip<S: Source>(
-    walk: &mut Walk<'_, '_>,
-    replay: &mut Replay<S>,
-    asked: &Asked,
-    sheet: &mut Sheet,
-) -> Result<Option<&'static str>, NoView>
-    ensures { SameModel walk.old walk.new }
-{
-    for _turn in 0..asked.from {
-        let end = add_next(walk, replay, asked.limit as usize, sheet)?;
-        if end.is_some() {
-            return Ok(end);
-        }
-        sheet.lines.clear();
-        sheet.items.clear();
-    }
-    Ok(None)
-}
-
-// Goes behind the steps whose lines are not wanted, and writes the line of the state there, and the last lines of a run that ends on the way. Why it does;
-// the moves of that state are given back.
-fn begin_behind<S: Source>(
-    rt: &HostRuntime,
-    walk: &mut Walk<'_, '_>,
-    replay: &mut Replay<S>,
-    asked: &Asked,
-    moves: &mut Vec<Move>,
-    sheet: &mut Sheet,
-) -> Result<Option<&'static str>, NoView>
-    ensures { SameModel walk.old walk.new }
-{
-    let end = skip(walk, replay, asked, sheet)?;
-    let mut last = Writer::new(rt.alloc());
-    last.join(&sheet.lines);
-    sheet.lines.clear();
-    sheet.show_anew();
-    *moves = begin(walk, asked, sheet)?;
-    sheet.lines.join(&last);
-    Ok(end)
-}
-
-// Writes the lines that there are, where they are not kept for a page.
-fn put_out(rt: &HostRuntime, is_kept: bool, sheet: &mut Sheet) -> Result<(), NoView> {
-    if sheet.lines.is_refused() || sheet.items.is_refused() {
-        return Err(NoView::Memory);
-    }
-    if !is_kept {
-        show_lines(rt, &sheet.lines)?;
-        sheet.lines.clear();
-        sheet.items.clear();
-    }
-    Ok(())
-}
-
-// The same, where there are many.
-fn flush(rt: &HostRuntime, is_kept: bool, sheet: &mut Sheet) -> Result<(), NoView> {
-    put_out(rt, is_kept || sheet.lines.len() <= AT_ONCE, sheet)
-}
-
-// Takes steps until a walk has so many, or goes no further, and writes each. Why it goes no further.
-pub fn go_on<S: Source>(
-    rt: &HostRuntime,
-    walk: &mut Walk<'_, '_>,
-    replay: &mut Replay<S>,
-    limit: usize,
-    is_kept: bool,
-    sheet: &mut Sheet,
-) -> Result<&'static str, NoView>
-    ensures { SameModel walk.old walk.new }
-{
-    for _turn in 0..u64::MAX {
-        let end = add_next(walk, replay, limit, sheet)?;
-        flush(rt, is_kept, sheet)?;
-        if let Some(end) = end {
-            return Ok(end);
-        }
-    }
-    Ok("step limit")
-}
-
-// Takes the first step from a state with these moves and writes it. Why the run ends there, where it does.
-fn go_first<S: Source>(
-    walk: &mut Walk<'_, '_>,
-    moves: Vec<Move>,
-    replay: &mut Replay<S>,
-    limit: usize,
-    sheet: &mut Sheet,
-) -> Result<Option<&'static str>, NoView>
-    ensures { SameModel walk.old walk.new }
-{
-    Ok(add_next_of(walk, moves.as_slice(), replay, limit, sheet)?)
-}
-
-// Takes steps from a state with these moves, as `go_on`.
-fn go_from<S: Source>(
-    rt: &HostRuntime,
-    walk: &mut Walk<'_, '_>,
-    moves: Vec<Move>,
-    replay: &mut Replay<S>,
-    limit: usize,
-    is_kept: bool,
-    sheet: &mut Sheet,
-) -> Result<&'static str, NoView>
-    ensures { SameModel walk.old walk.new }
-{
-    let end = go_first(walk, moves, replay, limit, sheet)?;
-    flush(rt, is_kept, sheet)?;
-    match end {
-        Some(end) => Ok(end),
-        None => go_on(rt, walk, replay, limit, is_kept, sheet),
-    }
-}
-
-// Writes the lines of a run: that of the state with which they begin, at once where they are not kept for a page, and those of its steps. Why it ends.
-pub fn run_lines<S: Source>(
-    rt: &HostRuntime,
-    walk: &mut Walk<'_, '_>,
-    replay: &mut Replay<S>,
-    asked: &Asked,
-    is_kept: bool,
-    sheet: &mut Sheet,
-) -> Result<&'static str, NoView>
-    ensures { SameModel walk.old walk.new }
-{
-    let mut moves = Vec::new(rt.alloc());
-    let end = begin_behind(rt, walk, replay, asked, &mut moves, sheet)?;
-    put_out(rt, is_kept, sheet)?;
-    match end {
-        Some(end) => Ok(end),
-        None => go_from(
-            rt,
-            walk,
-            moves,
-            replay,
-            asked.limit as usize,
-            is_kept,
-            sheet,
-        ),
-    }
 }
 
 // Writes the page of a run.

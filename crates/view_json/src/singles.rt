@@ -96,14 +96,13 @@ fn place_for(pick: Pick, seen: Seen<'_>, last: &mut Singles) -> usize
     }
 }
 
-// Writes a move at a place.
+// Writes a move at the place of the last.
 fn add_at(
     picture: &Picture<'_, '_, '_>,
     json: &mut Json,
     pick: Pick,
     is_late: bool,
     seen: Seen<'_>,
-    at: usize,
     last: &mut Singles,
 )
     requires tell { All (Tells picture.now) last.old.all.items }
@@ -111,7 +110,7 @@ fn add_at(
     ensures choice { AddsChoice picture.now (Alone pick is_late) json.old json.new }
     ensures tell { All (Tells picture.now) last.new.all.items }
 {
-    last.at = at;
+    let at = last.at;
     if at < last.all.len() {
         add_single(picture, json, pick, is_late, seen, &mut last.all[at]);
     } else {
@@ -133,5 +132,6 @@ pub(crate) fn add_alone(
 {
     let seen = seen_at(picture, pick);
     let at = place_for(pick, seen, last);
-    add_at(picture, json, pick, is_late, seen, at, last);
+    last.at = at;
+    add_at(picture, json, pick, is_late, seen, last);
 }
