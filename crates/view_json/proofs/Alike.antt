@@ -13,12 +13,15 @@ use Rattle.promela_run.specs.declared.moves.Move.TheVariants.{Alone, Pair}
 use Rattle.promela_run.specs.State.{picked, State}
 use Rattle.promela_run.specs.World.{proctype_of, offer_text, pick_text, move_text}
 use Rattle.view_waits.specs.Offers.{bare, text_in, offered_line}
+use Rattle.json.specs.Token.{Token}
 use Rattle.view_json.specs.declared.known.Known.{Known}
+use Rattle.view_json.specs.declared.known.Seen.{Seen}
 use Rattle.view_json.specs.declared.texts.Parts.{Parts}
 use Rattle.view_json.specs.declared.texts.Line.{Line}
-use Rattle.view_json.specs.Objects.{text}
-use Rattle.view_json.specs.Choices.{actor, next_line}
-use Rattle.view_json.specs.Known.{Knows, alike, IsOf, whole_text, acted}
+use Rattle.view_json.specs.Objects.{text, member, detail, object}
+use Rattle.view_json.specs.Lines.{dealing}
+use Rattle.view_json.specs.Choices.{Effect, actor, partner, choice, next_line}
+use Rattle.view_json.specs.Known.{Knows, IsSeen, alike, of_pick, IsOf, whole_text, acted}
 use Rattle.view_json.specs.Texts.{behind_heading, offer_by, text_by, TellsMove, Reads, IsLine, same_parts}
 
 -- ---- a process at an offer
@@ -33,23 +36,40 @@ same_actor s j k process line whole next =
     let bare_is : text_in (picked s j) ≡ text_in (picked s k) = text_is (picked s j) ∙ ap bare whole ∙ sym (text_is (picked s k)) in
     λ i. acted s (process i) (line i) (bare_is i) (next i)
 
-pub alike_is : (s : State) (k : Known) (pick : Pick) (at : ℕ) (whole : List ℕ) (behind : ℕ) → at ≡ offered_line s pick → whole ≡ whole_text s pick → behind ≡ next_line s pick
-    → Knows s k → alike k pick.process at whole behind ≡ true → IsOf s (record k { pick = pick })
-alike_is s k pick at whole behind line_is whole_is next_is knows same =
+pub alike_is : (s : State) (k : Known) (pick : Pick) (x : Seen) → IsSeen s pick x → Knows s k → alike k pick.process x ≡ true → IsOf s (of_pick pick k)
+alike_is s k pick x seen knows same =
     let one = and_parts (not k.written.refused) _ same in
     let two = and_parts (nat_eq k.pick.process pick.process) _ one.1 in
-    let three = and_parts (nat_eq k.line at) _ two.1 in
-    let four = and_parts (nat_eq k.next behind) _ three.1 in
+    let three = and_parts (nat_eq k.line x.line) _ two.1 in
+    let four = and_parts (nat_eq k.next x.next) _ three.1 in
     let of = knows (not-true k.written.refused one.0) in
-    let line = eqb-true k.line at three.0 ∙ line_is in
-    let text = (bytes_eq-Decides k.text.items whole).0 four.1 ∙ whole_is in
-    let next = eqb-true k.next behind four.0 ∙ next_is in
+    let line = eqb-true k.line x.line three.0 ∙ seen.line in
+    let text = (bytes_eq-Decides k.text.items x.text.now).0 four.1 ∙ seen.text in
+    let next = eqb-true k.next x.next four.0 ∙ seen.next in
     record {
       line = line;
       text = text;
       next = next;
       written = of.written ∙ same_actor s k.pick pick (eqb-true k.pick.process pick.process two.0) (sym of.line ∙ line) (sym of.text ∙ text) (sym of.next ∙ next);
     }
+
+-- what was written of an offer is not refused, where it is alike
+pub alike_calm : (k : Known) (p : ℕ) (x : Seen) → alike k p x ≡ true → k.written.refused ≡ false
+alike_calm k p x same = not-true k.written.refused (and_parts (not k.written.refused) _ same).0
+
+-- the tokens of a move of one process are those of another that is alike
+pub same_single : (s : State) (k : Known) (pick : Pick) (x : Effect) → IsOf s k → IsOf s (of_pick pick k)
+    → choice s (Alone k.pick false) x ≡ choice s (Alone pick false) x
+same_single s k pick x old new =
+    ap (λ (ts : List Token). object (ts ++ (dealing s x.deals ++ (partner s (Alone pick false) ++ detail (codes "effect") x.words)))) (sym old.written ∙ new.written)
+
+-- so are those of a rendezvous
+pub same_couple : (s : State) (k j : Known) (first second : Pick) (x : Effect) → IsOf s k → IsOf s (of_pick first k) → IsOf s j → IsOf s (of_pick second j)
+    → choice s (Pair k.pick j.pick false) x ≡ choice s (Pair first second false) x
+same_couple s k j first second x old new from to =
+    let one : actor s k.pick ≡ actor s first = sym old.written ∙ new.written in
+    let two : actor s j.pick ≡ actor s second = sym from.written ∙ to.written in
+    λ i. object (one i ++ (dealing s x.deals ++ (member (codes "to") (object (two i)) ++ detail (codes "effect") x.words)))
 
 -- ---- texts
 

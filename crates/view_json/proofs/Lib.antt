@@ -11,3 +11,4 @@ pub mod Alike
 pub mod Ended
 pub mod Asked
 pub mod Counting
+pub mod Kept

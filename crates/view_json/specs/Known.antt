@@ -7,6 +7,7 @@ use Rattle.promela_run.specs.State.{picked, State}
 use Rattle.promela_run.specs.declared.moves.Pick.{Pick}
 use Rattle.view_waits.specs.Offers.{offered_line, offered_text}
 use Rattle.view_json.specs.declared.known.Known.{Known}
+use Rattle.view_json.specs.declared.known.Seen.{Seen}
 use Rattle.view_json.specs.Objects.{count, text, member, named}
 use Rattle.view_json.specs.Choices.{actor, next_line}
 
@@ -30,7 +31,17 @@ pub record IsOf (s : State) (k : Known) : Type 0 where
 abbrev pub Knows : State → Known → Type 0
 Knows s k = k.written.refused ≡ false → IsOf s k
 
--- whether something was written, of an offer of this process, with this line and text, behind which the process stands at this line
-abbrev pub alike : Known → ℕ → ℕ → List ℕ → ℕ → Bool
-alike k p at whole behind =
-    not k.written.refused && (nat_eq k.pick.process p && (nat_eq k.line at && (nat_eq k.next behind && bytes_eq k.text.items whole)))
+-- an offer is seen as it is
+pub record IsSeen (s : State) (k : Pick) (x : Seen) : Type 0 where
+  pub line : x.line ≡ offered_line s k
+  pub text : x.text.now ≡ whole_text s k
+  pub next : x.next ≡ next_line s k
+
+-- the same of another pick
+abbrev pub of_pick : Pick → Known → Known
+of_pick pick k = record k { pick = pick }
+
+-- whether something was written, of an offer of this process that is seen so
+abbrev pub alike : Known → ℕ → Seen → Bool
+alike k p x =
+    not k.written.refused && (nat_eq k.pick.process p && (nat_eq k.line x.line && (nat_eq k.next x.next && bytes_eq k.text.items x.text.now)))

@@ -243,7 +243,7 @@ impl Shown {
     {
         let mut list = Listing::new(out.allocator());
         self.channels = self.all_channels(picture, &mut list)?;
-        list.end(b",\"channels\":[", is_always, out);
+        list.put(b",\"channels\":[", is_always, out);
         Ok(())
     }
 
@@ -309,7 +309,7 @@ impl Shown {
     {
         let mut list = Listing::new(out.allocator());
         self.processes = self.all_processes(picture, behind, &mut list)?;
-        list.end(b",\"processes\":[", is_always, out);
+        list.put(b",\"processes\":[", is_always, out);
         Ok(())
     }
 }

@@ -1,15 +1,18 @@
 //! What was written of a process at an offer, and is written again for the next that does the same.
 
-ghost use Rattle.std.specs.Prelude.{◌≡◌, true, IfOk};
+ghost use Rattle.std.specs.Prelude.{◌≡◌, [], true, slice_get, Some};
+ghost use Rattle.run_state.specs.Standing.{stand_of};
 ghost use Rattle.view_waits.specs.Offers.{offered_line};
 ghost use Rattle.view_json.specs.Choices.{next_line};
-ghost use Rattle.view_json.specs.Known.{Knows, alike, whole_text};
+ghost use Rattle.view_json.specs.Known.{Knows, IsSeen, alike, whole_text};
 
-use crate::choice::{actor, next_of};
+use crate::actor::{actor, line_at_seat};
+use pml_program::program::{Action, Basic};
 use promela_run::moves::Pick;
 use run_search::picked::picked as offer_of;
 use run_state::live::Live;
-use std::alloc::{AllocError, Global};
+use run_state::seat::{Seat, seat_at};
+use std::alloc::Global;
 use view_cells::picture::Picture;
 use view_tokens::tokens::Json;
 
@@ -21,6 +24,15 @@ pub(crate) struct Known {
     pub text: Vec<u8>,
     pub next: u32,
     pub written: Json,
+}
+
+/// An offer: its line and text, the line at which its process stands behind it, and whether it sends or receives.
+#[derive(Clone, Copy)]
+pub(crate) struct Seen<'p> {
+    pub line: u32,
+    pub text: &'p [u8],
+    pub next: u32,
+    pub deals: bool,
 }
 
 impl Known {
@@ -41,27 +53,76 @@ impl Known {
     }
 }
 
-// Bytes in the memory of others.
-pub(crate) fn copied(memory: Vec<u8>, bytes: &[u8]) -> Result<Vec<u8>, AllocError>
-    ensures { IfOk result (λ v. v.items ≡ bytes.now) }
-{
-    let mut copy = memory;
-    copy.clear();
-    copy.extend_from_slice(bytes)?;
-    Ok(copy)
-}
-
-// The line of the offer that a pick names.
-fn line_at(live: &Live<'_, '_>, pick: Pick) -> u32
-    ensures { result ≡ offered_line live.now.state pick }
-{
-    match offer_of(live, pick) {
-        Some(offer) => offer.body.graph.offer_line(offer.edge.statement),
-        None => 0,
+// Whether an action sends or receives.
+fn is_deal(action: &Action<'_>) -> bool {
+    match action {
+        Action::Send(_, _, _) => true,
+        Action::Receive(_, _, _, _) => true,
+        _ => false,
     }
 }
 
-// Its text, with its line.
+// Whether a statement sends or receives.
+fn deals(basic: Option<&Basic<'_>>) -> bool {
+    match basic {
+        Some(Basic::Plain(action)) => is_deal(action),
+        _ => false,
+    }
+}
+
+// The offer that a pick names, whose process has this seat.
+fn seen_from<'p>(live: &Live<'p, '_>, seat: Seat, pick: Pick) -> Seen<'p>
+    requires { slice_get live.now.state.stands pick.process ≡ Some (stand_of live.now.state.program seat) }
+    ensures line { result.line ≡ offered_line live.now.state pick }
+    ensures text { result.text.now ≡ whole_text live.now.state pick }
+    ensures next { result.next ≡ next_line live.now.state pick }
+{
+    match offer_of(live, pick) {
+        Some(offer) => {
+            let node = offer.edge.target;
+            Seen {
+                line: offer.body.graph.offer_line(offer.edge.statement),
+                text: offer.body.graph.text(offer.edge.statement),
+                next: line_at_seat(live, Seat { node, ..seat }),
+                deals: deals(offer.body.basic(*offer.edge)),
+            }
+        }
+        None => nothing(),
+    }
+}
+
+fn nothing<'p>() -> Seen<'p>
+    ensures line { result.line ≡ 0 }
+    ensures text { result.text.now ≡ [] }
+    ensures next { result.next ≡ 0 }
+{
+    Seen {
+        line: 0,
+        text: &[],
+        next: 0,
+        deals: false,
+    }
+}
+
+fn seen_in_live<'p>(live: &Live<'p, '_>, pick: Pick) -> Seen<'p>
+    ensures line { result.line ≡ offered_line live.now.state pick }
+    ensures text { result.text.now ≡ whole_text live.now.state pick }
+    ensures next { result.next ≡ next_line live.now.state pick }
+{
+    match seat_at(live.seats(), pick.process) {
+        Some(seat) => seen_from(live, *seat, pick),
+        None => nothing(),
+    }
+}
+
+/// The offer that a pick names.
+pub(crate) fn seen_at<'p>(picture: &Picture<'_, 'p, '_>, pick: Pick) -> Seen<'p>
+    ensures { IsSeen picture.now pick result }
+{
+    seen_in_live(picture.live(), pick)
+}
+
+/// The text of the offer that a pick names, with its line.
 pub(crate) fn text_at<'p>(live: &Live<'p, '_>, pick: Pick) -> &'p [u8]
     ensures { result.now ≡ whole_text live.now.state pick }
 {
@@ -71,92 +132,44 @@ pub(crate) fn text_at<'p>(live: &Live<'p, '_>, pick: Pick) -> &'p [u8]
     }
 }
 
-// Whether something was written, for an offer of the same process with this line and text, behind which it stands at this line.
-fn is_alike(known: &Known, process: usize, line: u32, text: &[u8], next: u32) -> bool
-    ensures { result ≡ alike known.now process line text.now next }
+/// Whether something was written, for an offer of the same process that is seen so.
+pub(crate) fn is_alike(known: &Known, process: usize, seen: Seen<'_>) -> bool
+    ensures { result ≡ alike known.now process seen.entry }
 {
     !known.written.is_refused()
         && known.pick.process == process
-        && known.line == line
-        && known.next == next
-        && known.text.as_slice() == text
+        && known.line == seen.line
+        && known.next == seen.next
+        && known.text.as_slice() == seen.text
 }
 
-// Writes a process anew.
-fn write(
-    picture: &Picture<'_, '_, '_>,
-    pick: Pick,
-    line: u32,
-    bytes: &[u8],
-    next: u32,
-    last: Known,
-) -> Known
-    requires line { line ≡ offered_line picture.now pick }
-    requires text { bytes.now ≡ whole_text picture.now pick }
-    requires next { next ≡ next_line picture.now pick }
-    ensures knows { Knows picture.now result }
-    ensures pick { result.pick ≡ pick }
+// Writes a process at an offer anew.
+fn write(picture: &Picture<'_, '_, '_>, pick: Pick, seen: Seen<'_>, known: &mut Known)
+    requires { IsSeen picture.now pick seen }
+    ensures knows { Knows picture.now known.new }
+    ensures pick { known.new.pick ≡ pick }
 {
-    let Known { text, written, .. } = last;
-    let mut written = written;
-    written.clear();
-    actor(picture, &mut written, pick);
-    match copied(text, bytes) {
-        Ok(text) => Known {
-            pick,
-            line,
-            text,
-            next,
-            written,
-        },
-        Err(_) => Known::new(written.allocator(), pick),
+    known.pick = pick;
+    known.line = seen.line;
+    known.next = seen.next;
+    known.written.clear();
+    actor(picture, &mut known.written, pick);
+    known.text.clear();
+    if known.text.extend_from_slice(seen.text).is_err() {
+        known.written.refuse();
     }
 }
 
-// The same, of another pick.
-fn at(pick: Pick, last: Known) -> Known
-    ensures { result ≡ record last { pick = pick } }
+/// Writes a process at an offer that is seen so, where it is not known.
+pub(crate) fn know(picture: &Picture<'_, '_, '_>, pick: Pick, seen: Seen<'_>, known: &mut Known)
+    requires known { Knows picture.now known.old }
+    requires seen { IsSeen picture.now pick seen }
+    ensures knows { Knows picture.now known.new }
+    ensures pick { known.new.pick ≡ pick }
 {
-    let Known {
-        line,
-        text,
-        next,
-        written,
-        ..
-    } = last;
-    Known {
-        pick,
-        line,
-        text,
-        next,
-        written,
+    if is_alike(known, pick.process, seen) {
+        known.pick = pick;
+        return;
     }
-}
-
-// What is written of a process at an offer, where something else was written before.
-fn found(picture: &Picture<'_, '_, '_>, pick: Pick, last: Known) -> Known
-    requires { Knows picture.now last }
-    ensures knows { Knows picture.now result }
-    ensures pick { result.pick ≡ pick }
-{
-    let live = picture.live();
-    let line = line_at(live, pick);
-    let text = text_at(live, pick);
-    let next = next_of(picture, pick);
-    if is_alike(&last, pick.process, line, text, next) {
-        return at(pick, last);
-    }
-    write(picture, pick, line, text, next, last)
-}
-
-/// What is written of a process at an offer, where this was written before.
-pub(crate) fn know(picture: &Picture<'_, '_, '_>, pick: Pick, last: Known) -> Known
-    requires { Knows picture.now last }
-    ensures knows { Knows picture.now result }
-    ensures pick { result.pick ≡ pick }
-{
-    if last.pick == pick && !last.written.is_refused() {
-        return last;
-    }
-    found(picture, pick, last)
+    write(picture, pick, seen, known);
 }

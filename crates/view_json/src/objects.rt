@@ -85,14 +85,14 @@ pub fn value(picture: &Picture<'_, '_, '_>, json: &mut Json, form: Form, n: i32)
     }
 }
 
-// Writes the path of a cell as a key.
-fn path(picture: &Picture<'_, '_, '_>, json: &mut Json, place: Place)
+// Writes the path of a cell as a key, in memory for it.
+fn path(picture: &Picture<'_, '_, '_>, json: &mut Json, place: Place, memory: &mut Writer)
     ensures { Writes json.old json.new (key (string_of (path_of picture.now place)) ∷ []) }
 {
-    let mut path = Writer::new(json.allocator());
-    add_path(picture, place, &mut path);
-    json.text_key(path.bytes());
-    if path.is_refused() {
+    memory.clear();
+    add_path(picture, place, memory);
+    json.text_key(memory.bytes());
+    if memory.is_refused() {
         json.refuse();
     }
 }
@@ -106,24 +106,33 @@ fn held(picture: &Picture<'_, '_, '_>, json: &mut Json, place: Place)
     value(picture, json, form, number);
 }
 
+// Writes a cell as a member of an object, its path in memory for it.
+fn cell_in(picture: &Picture<'_, '_, '_>, json: &mut Json, place: Place, memory: &mut Writer)
+    ensures { Writes json.old json.new (cell picture.now place) }
+{
+    path(picture, json, place, memory);
+    held(picture, json, place);
+}
+
 /// Writes a cell as a member of an object.
 pub fn cell(picture: &Picture<'_, '_, '_>, json: &mut Json, place: Place)
     ensures { Writes json.old json.new (cell picture.now place) }
 {
-    path(picture, json, place);
-    held(picture, json, place);
+    let mut memory = Writer::new(json.allocator());
+    cell_in(picture, json, place, &mut memory);
 }
 
 fn cells_of(picture: &Picture<'_, '_, '_>, json: &mut Json, frame: usize, variable: usize)
     ensures { Writes json.old json.new (variable_cells picture.now frame variable) }
 {
+    let mut memory = Writer::new(json.allocator());
     for at in 0..cell_count(picture, frame, variable) {
         let place = Place {
             frame,
             variable,
             cell: at,
         };
-        cell(picture, json, place);
+        cell_in(picture, json, place, &mut memory);
     }
 }
 

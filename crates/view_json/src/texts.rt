@@ -1,18 +1,21 @@
-//! The texts of moves, each as a string: that of a move before is written again where the next has the same.
+//! The texts of moves, each as a string, written again where it was among the last few.
 
-ghost use Rattle.std.specs.Prelude.{◌≡◌, ◌<◌, Bool, false, [], length};
+ghost use Rattle.std.specs.Prelude.{◌≡◌, ◌<◌, Bool, true, false, [], All, length};
 ghost use Rattle.promela_run.specs.declared.moves.Move.TheVariants.{Alone, Pair};
 ghost use Rattle.std.specs.List.{flat_map};
+ghost use Rattle.promela_run.specs.State.{State};
 ghost use Rattle.promela_run.specs.World.{move_text};
 ghost use Rattle.view_tokens.specs.Printed.{Writes};
 ghost use Rattle.view_json.specs.Objects.{text};
 ghost use Rattle.view_json.specs.Texts.{Reads, TellsMove, IsLine, same_parts};
 
-use crate::known::{copied, text_at};
+use crate::known::text_at;
 use crate::objects::whole;
+use crate::singles::{behind, most_of};
 use promela_run::moves::{Move, Pick};
 use run_state::live::Live;
 use run_texts::texts::add_move;
+use std::alloc::Global;
 use view_cells::picture::Picture;
 use view_text::writer::Writer;
 use view_tokens::tokens::Json;
@@ -36,6 +39,21 @@ struct Line {
     written: Json,
 }
 
+impl Line {
+    // Nothing was written.
+    fn new(alloc: Global) -> Line
+        ensures { result.text.items ≡ [] }
+    {
+        Line {
+            first: 0,
+            text: Vec::new(alloc),
+            second: 0,
+            reply: Vec::new(alloc),
+            written: Json::new(alloc),
+        }
+    }
+}
+
 // None that are known.
 fn no_parts<'p>() -> Parts<'p>
     ensures { result.text.now ≡ [] }
@@ -45,21 +63,6 @@ fn no_parts<'p>() -> Parts<'p>
         text: &[],
         second: 0,
         reply: &[],
-    }
-}
-
-// This was written of nobody knows what.
-fn unknown(written: Json) -> Line
-    ensures text { result.text.items ≡ [] }
-    ensures written { result.written ≡ written }
-{
-    let alloc = written.allocator();
-    Line {
-        first: 0,
-        text: Vec::new(alloc),
-        second: 0,
-        reply: Vec::new(alloc),
-        written,
     }
 }
 
@@ -112,32 +115,23 @@ fn are_same(line: &Line, parts: &Parts<'_>) -> bool
         && line.reply.as_slice() == parts.reply
 }
 
-// A line with a copy of a receiver's text.
-fn with_reply(parts: Parts<'_>, text: Vec<u8>, reply: Vec<u8>, written: Json) -> Line
-    requires { text.items ≡ parts.text.now }
-    ensures line { (0 < length result.text.items) → IsLine result parts.entry }
-    ensures written { result.written ≡ written }
+// Bytes in the place of others: whether memory was there for them.
+fn is_kept(memory: &mut Vec<u8>, bytes: &[u8]) -> bool
+    ensures { result ≡ true → memory.new.items ≡ bytes.now }
 {
-    match copied(reply, parts.reply) {
-        Ok(reply) => Line {
-            first: parts.first,
-            text,
-            second: parts.second,
-            reply,
-            written,
-        },
-        Err(_) => unknown(written),
-    }
+    memory.clear();
+    memory.extend_from_slice(bytes).is_ok()
 }
 
-// A line with copies of the texts of its parts.
-fn line_with(parts: Parts<'_>, text: Vec<u8>, reply: Vec<u8>, written: Json) -> Line
-    ensures line { (0 < length result.text.items) → IsLine result parts.entry }
-    ensures written { result.written ≡ written }
+// Keeps of what parts a line is.
+fn keep(parts: Parts<'_>, line: &mut Line)
+    ensures line { (0 < length line.new.text.items) → IsLine line.new parts.entry }
+    ensures written { line.new.written ≡ line.old.written }
 {
-    match copied(text, parts.text) {
-        Ok(text) => with_reply(parts, text, reply, written),
-        Err(_) => unknown(written),
+    line.first = parts.first;
+    line.second = parts.second;
+    if !is_kept(&mut line.reply, parts.reply) || !is_kept(&mut line.text, parts.text) {
+        line.text.clear();
     }
 }
 
@@ -152,68 +146,169 @@ fn move_text(picture: &Picture<'_, '_, '_>, json: &mut Json, m: Move, line: &mut
     whole(json, line);
 }
 
-// The text of a move, written anew.
-fn line_anew(
+// Writes the text of a move anew.
+fn renew(
     picture: &Picture<'_, '_, '_>,
     m: Move,
     parts: Parts<'_>,
-    last: Line,
-    line: &mut Writer,
-) -> Line
+    last: &mut Line,
+    memory: &mut Writer,
+)
     requires { TellsMove picture.now m parts }
-    ensures reads { Reads picture.now result }
-    ensures written { result.written.refused ≡ false → result.written.tokens ≡ text (move_text picture.now m) }
+    ensures reads { Reads picture.now last.new }
+    ensures written { last.new.written.refused ≡ false → last.new.written.tokens ≡ text (move_text picture.now m) }
 {
-    let Line {
-        text,
-        reply,
-        written,
-        ..
-    } = last;
-    let mut written = written;
-    written.clear();
-    move_text(picture, &mut written, m, line);
-    line_with(parts, text, reply, written)
+    last.written.clear();
+    move_text(picture, &mut last.written, m, memory);
+    keep(parts, last);
 }
 
-// The text of a move, where this was written before.
-fn line_of(picture: &Picture<'_, '_, '_>, m: Move, last: Line, line: &mut Writer) -> Line
-    requires { Reads picture.now last }
-    ensures reads { Reads picture.now result }
-    ensures written { result.written.refused ≡ false → result.written.tokens ≡ text (move_text picture.now m) }
+// Writes the text of a move that has these parts, where it is not the same as before.
+fn settle(
+    picture: &Picture<'_, '_, '_>,
+    m: Move,
+    parts: Parts<'_>,
+    last: &mut Line,
+    memory: &mut Writer,
+)
+    requires reads { Reads picture.now last.old }
+    requires tells { TellsMove picture.now m parts }
+    ensures reads { Reads picture.now last.new }
+    ensures written { last.new.written.refused ≡ false → last.new.written.tokens ≡ text (move_text picture.now m) }
 {
-    let live = picture.live();
-    let parts = parts_of(live, m);
-    if are_same(&last, &parts) {
-        return last;
+    if are_same(last, &parts) {
+        return;
     }
-    line_anew(picture, m, parts, last, line)
+    renew(picture, m, parts, last, memory);
 }
 
-// Writes the text of a move, where this was written before. What is written then.
-fn add_text(
+// Writes the text of a move that has these parts, where this was written before.
+fn add_line(
     picture: &Picture<'_, '_, '_>,
     json: &mut Json,
     m: Move,
-    last: Line,
-    line: &mut Writer,
-) -> Line
-    requires { Reads picture.now last }
-    ensures reads { Reads picture.now result }
+    parts: Parts<'_>,
+    last: &mut Line,
+    memory: &mut Writer,
+)
+    requires reads { Reads picture.now last.old }
+    requires tells { TellsMove picture.now m parts }
+    ensures reads { Reads picture.now last.new }
     ensures written { Writes json.old json.new (text (move_text picture.now m)) }
 {
-    let next = line_of(picture, m, last, line);
-    json.join(&next.written);
-    next
+    settle(picture, m, parts, last, memory);
+    json.join(&last.written);
+}
+
+// The texts that were written last, the place of the last of all, and memory for one more.
+#[derive(Drop)]
+struct Lines {
+    all: Vec<Line>,
+    at: usize,
+    most: usize,
+    memory: Writer,
+}
+
+impl Lines {
+    // None yet, of so many that are to be written.
+    fn new(alloc: Global, count: usize) -> Lines
+        ensures { result.all.items ≡ [] }
+    {
+        Lines {
+            all: Vec::new(alloc),
+            at: 0,
+            most: most_of(count),
+            memory: Writer::new(alloc),
+        }
+    }
+}
+
+// Whether what stands at a place has these parts.
+fn is_at(all: &[Line], at: usize, parts: &Parts<'_>) -> bool {
+    match all.get(at) {
+        Some(line) => are_same(line, parts),
+        None => false,
+    }
+}
+
+// The place of a text that has these parts: first that of the last of all is asked.
+fn place_of(all: &[Line], last: usize, parts: &Parts<'_>) -> Option<usize> {
+    if is_at(all, last, parts) {
+        return Some(last);
+    }
+    for at in 0..all.len() {
+        if is_at(all, at, parts) {
+            return Some(at);
+        }
+    }
+    None
+}
+
+// A place for one more: a new one, or where there are enough that of the one that was written first.
+fn make_place(last: &mut Lines) -> usize
+    ensures { (s : State) → All (Reads s) last.old.all.items → All (Reads s) last.new.all.items }
+{
+    let len = last.all.len();
+    if len < last.most {
+        let one = Line::new(*last.all.allocator());
+        return match last.all.push(one) {
+            Ok(()) => len,
+            Err(_) => len,
+        };
+    }
+    behind(last.at, len)
+}
+
+// The place for a text that has these parts.
+fn place_for(parts: &Parts<'_>, last: &mut Lines) -> usize
+    ensures { (s : State) → All (Reads s) last.old.all.items → All (Reads s) last.new.all.items }
+{
+    match place_of(last.all.as_slice(), last.at, parts) {
+        Some(at) => at,
+        None => make_place(last),
+    }
+}
+
+// Writes the text of a move that has these parts at a place.
+fn add_at(
+    picture: &Picture<'_, '_, '_>,
+    json: &mut Json,
+    m: Move,
+    parts: Parts<'_>,
+    at: usize,
+    last: &mut Lines,
+)
+    requires read { All (Reads picture.now) last.old.all.items }
+    requires tells { TellsMove picture.now m parts }
+    ensures read { All (Reads picture.now) last.new.all.items }
+    ensures written { Writes json.old json.new (text (move_text picture.now m)) }
+{
+    last.at = at;
+    if at < last.all.len() {
+        add_line(picture, json, m, parts, &mut last.all[at], &mut last.memory);
+    } else {
+        json.refuse();
+    }
+}
+
+// Writes the text of a move, where this was written before.
+fn add_text(picture: &Picture<'_, '_, '_>, json: &mut Json, m: Move, last: &mut Lines)
+    requires { All (Reads picture.now) last.old.all.items }
+    ensures read { All (Reads picture.now) last.new.all.items }
+    ensures written { Writes json.old json.new (text (move_text picture.now m)) }
+{
+    let live = picture.live();
+    let parts = parts_of(live, m);
+    let at = place_for(&parts, last);
+    add_at(picture, json, m, parts, at, last);
 }
 
 /// Writes the texts of moves.
 pub(crate) fn move_texts(picture: &Picture<'_, '_, '_>, json: &mut Json, moves: &[Move])
     ensures { Writes json.old json.new (flat_map (λ m. text (move_text picture.now m)) moves.now) }
 {
-    let mut line = Writer::new(json.allocator());
-    let mut last = unknown(Json::new(json.allocator()));
+    let mut last = Lines::new(json.allocator(), moves.len());
     for m in moves {
-        last = add_text(picture, json, *m, last, &mut line);
+        add_text(picture, json, *m, &mut last);
     }
 }

@@ -6,6 +6,6 @@ loop-m-init c = (choices_none c.args.picture.now _, c.new-before.ensures c.args.
 
 pub loop-m-preserved : goal.loop-m-preserved
 loop-m-preserved c = (
-  choices_more c.args.picture.now c.loop-m.m-index c.args.moves.now _ _ _ _ c.loop-m-test.true c.loop-m.invariant.0 c.add_choice-before.ensures.choice.0 c.add_choice-before.ensures.choice.1,
-  c.add_choice-before.ensures.goes,
+  choices_more c.args.picture.now c.loop-m.m-index c.args.moves.now _ _ _ _ c.loop-m-test.true c.loop-m.invariant.0 c.add_choice.ensures.choice.0 c.add_choice.ensures.choice.1,
+  c.add_choice.ensures.goes,
 )

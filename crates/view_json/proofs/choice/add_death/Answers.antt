@@ -1,10 +1,8 @@
-use Rattle.view_json.specs.Lines.{dealt}
-use Rattle.view_json.proofs.Writing.{chained}
+use Rattle.std.proofs.Common.{ap}
+use Rattle.promela_run.specs.declared.moves.Move.TheVariants.{Death}
+use Rattle.view_tokens.specs.Printed.{Printed}
+use Rattle.view_json.proofs.Choices.{choice_refused}
 use Rattle.view_json.proofs.choice.add_death.Goals as goal
 
-pub returns : goal.returns
-returns c = (
-  record { deals = dealt c.args.done.now; words = c.effect_of.ensures.0 },
-  chained _ _ _ _ _ c.begin_object.ensures
-      (chained _ _ _ _ _ (chained _ _ _ _ _ c.ending.ensures (chained _ _ _ _ _ c.transfer.ensures c.effect_of.ensures.1)) c.end_object.ensures),
-)
+pub returns-in-Err : goal.returns-in-Err
+returns-in-Err c = choice_refused c.args.picture.now (Death c.args.process) c.args.json.now c.refuse.new.self (ap (λ (j : Printed). j.refused) c.refuse.ensures)

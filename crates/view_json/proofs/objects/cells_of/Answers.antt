@@ -6,5 +6,5 @@ use Rattle.view_json.proofs.objects.cells_of.Goals as goal
 
 pub loop-at-preserved : goal.loop-at-preserved
 loop-at-preserved c =
-    chain _ _ _ _ _ _ c.loop-at.invariant c.cell.ensures
+    chain _ _ _ _ _ _ c.loop-at.invariant c.cell_in.ensures
     (each_more (λ at. cell c.args.picture.now (place c.args.frame c.args.variable at)) c.loop-at.at)

@@ -12,6 +12,6 @@ returns c =
       all.0,
       all.1,
       (λ i. record { processes = ap (λ (x : Shown). x.processes) c.self.view_is i; channels = all.2 i }),
-      c.end.ensures.written (codes "channels") ts channels_heading lists,
-      c.end.ensures.printable (codes "channels") ts lists,
+      c.put.ensures.written (codes "channels") ts channels_heading lists,
+      c.put.ensures.printable (codes "channels") ts lists,
     )

@@ -15,6 +15,6 @@ returns c is =
       all.1,
       all.2,
       (λ i. record { processes = all.3 i; channels = ap (λ (x : Shown). x.channels) c.self.view_is i }),
-      c.end.ensures.written (codes "processes") ts processes_heading lists,
-      c.end.ensures.printable (codes "processes") ts lists,
+      c.put.ensures.written (codes "processes") ts processes_heading lists,
+      c.put.ensures.printable (codes "processes") ts lists,
     )

@@ -1,4 +1,0 @@
-use Rattle.view_json.proofs.texts.add_text.Goals as goal
-
-pub returns-clause-written : goal.returns-clause-written
-returns-clause-written c = c.join.ensures.known _ c.line_of-next.ensures.written

@@ -1,0 +1,127 @@
+//! Rendezvous as objects, each written again where it was among the last few.
+
+ghost use Rattle.std.specs.Prelude.{◌≡◌, ◌<◌, [], All, length};
+ghost use Rattle.promela_run.specs.declared.moves.Move.TheVariants.{Pair};
+ghost use Rattle.promela_run.specs.State.{State};
+ghost use Rattle.view_json.specs.Choices.{AddsChoice};
+ghost use Rattle.view_json.specs.Before.{Meets, AreSeen};
+
+use crate::couple::{Couple, Meeting, add_couple, are_alike};
+use crate::known::seen_at;
+use crate::singles::{behind, most_of};
+use promela_run::moves::Pick;
+use std::alloc::Global;
+use view_cells::picture::Picture;
+use view_tokens::tokens::Json;
+
+/// The last rendezvous that differ, and the place of the last of all.
+#[derive(Drop)]
+pub(crate) struct Couples {
+    all: Vec<Couple>,
+    at: usize,
+    most: usize,
+}
+
+impl Couples {
+    /// None yet, of so many that are to be written.
+    pub fn new(alloc: Global, count: usize) -> Couples
+        ensures { result.all.items ≡ [] }
+    {
+        Couples {
+            all: Vec::new(alloc),
+            at: 0,
+            most: most_of(count),
+        }
+    }
+}
+
+// Whether what stands at a place is of the same processes, at offers that are seen so.
+fn is_at(all: &[Couple], at: usize, of: Meeting<'_>) -> bool {
+    match all.get(at) {
+        Some(one) => are_alike(one, of),
+        None => false,
+    }
+}
+
+// The place of a rendezvous: first that of the last of all is asked.
+fn place_of(all: &[Couple], last: usize, of: Meeting<'_>) -> Option<usize> {
+    if is_at(all, last, of) {
+        return Some(last);
+    }
+    for at in 0..all.len() {
+        if is_at(all, at, of) {
+            return Some(at);
+        }
+    }
+    None
+}
+
+// A place for one more: a new one, or where there are enough that of the one that was written first.
+fn make_place(pick: Pick, last: &mut Couples) -> usize
+    ensures { (s : State) → All (Meets s) last.old.all.items → All (Meets s) last.new.all.items }
+{
+    let len = last.all.len();
+    if len < last.most {
+        let one = Couple::new(*last.all.allocator(), pick);
+        return match last.all.push(one) {
+            Ok(()) => len,
+            Err(_) => len,
+        };
+    }
+    behind(last.at, len)
+}
+
+// The place for a rendezvous.
+fn place_for(of: Meeting<'_>, last: &mut Couples) -> usize
+    ensures { (s : State) → All (Meets s) last.old.all.items → All (Meets s) last.new.all.items }
+{
+    match place_of(last.all.as_slice(), last.at, of) {
+        Some(at) => at,
+        None => make_place(of.sender, last),
+    }
+}
+
+// Writes a rendezvous at a place.
+fn add_at(
+    picture: &Picture<'_, '_, '_>,
+    json: &mut Json,
+    of: Meeting<'_>,
+    at: usize,
+    last: &mut Couples,
+)
+    requires meet { All (Meets picture.now) last.old.all.items }
+    requires seen { AreSeen picture.now of }
+    ensures choice { AddsChoice picture.now (Pair of.entry.sender of.entry.receiver of.entry.is_late) json.old json.new }
+    ensures meet { All (Meets picture.now) last.new.all.items }
+{
+    last.at = at;
+    if at < last.all.len() {
+        add_couple(picture, json, of, &mut last.all[at]);
+    } else {
+        json.refuse();
+    }
+}
+
+/// Writes a rendezvous, where this was written before.
+pub(crate) fn add_pair(
+    picture: &Picture<'_, '_, '_>,
+    json: &mut Json,
+    sender: Pick,
+    receiver: Pick,
+    is_late: bool,
+    last: &mut Couples,
+)
+    requires { All (Meets picture.now) last.old.all.items }
+    ensures choice { AddsChoice picture.now (Pair sender receiver is_late) json.old json.new }
+    ensures meet { All (Meets picture.now) last.new.all.items }
+{
+    let of = Meeting {
+        sender,
+        receiver,
+        is_late,
+        first: seen_at(picture, sender),
+        partner: seen_at(picture, receiver),
+    };
+    let at = place_for(of, last);
+    add_at(picture, json, of, at, last);
+}
