@@ -1,9 +1,9 @@
 -- Texts whose names are known, and what is offered in them.
-use Rattle.std.proofs.Common.{◌≡◌, ◌∙◌, ap, subst, ℕ, List, length, take, Option, Some, None, IfOk, IfSome, Ok, Err}
+use Rattle.std.proofs.Common.{rules, ◌≡◌, ◌∙◌, ap, subst, ℕ, List, length, take, Option, Some, None, IfOk, IfSome, Ok, Err}
 use Rattle.std.specs.Prelude.{Result, map, filter}
-use Rattle.serde_json.specs.Data.{Data}
+use Rattle.serde_json.specs.Data.{Data, null}
 use Rattle.serde_json.specs.View.{view}
-use Rattle.serde_json.specs.declared.value.Value.{Value}
+use Rattle.serde_json.specs.declared.value.Value.{Value, Null, the_lemmas}
 use Rattle.pml_token.specs.Word.{Word}
 use Rattle.explain_tokens.specs.Placed.{ArePlaced}
 use Rattle.lsp_places.specs.declared.page.Page.{Page}
@@ -16,6 +16,9 @@ use Rattle.lsp_completions.specs.Items.{AreWords, word_of, begins_so}
 use Rattle.lsp_completions.specs.Fronts.{typed_in, before_typed}
 use Rattle.lsp_completions.specs.Readables.{IsLengthBehind, IsOf, IsReadable, cut, without}
 use Rattle.lsp_completions.specs.Wishes.{IsList, IsCompletion, offered_there}
+
+pub null_view : view Null ≡ null
+null_view = search (rules, the_lemmas)
 
 -- words of the language that begin as typed
 pub words_by : {L E : Type 0} (typed : List ℕ) (ws : List (List ℕ)) (told : L → List Data) (r : Result L E)

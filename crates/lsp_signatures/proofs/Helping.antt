@@ -1,9 +1,9 @@
 -- What is told of calls.
-use Rattle.std.proofs.Common.{◌≡◌, ◌∙◌, ◌-◌, sym, ap, subst, arith, ℕ, List, take, Some, None, IfOk, Ok, Err}
+use Rattle.std.proofs.Common.{rules, ◌≡◌, ◌∙◌, ◌-◌, sym, ap, subst, arith, ℕ, List, take, Some, None, IfOk, Ok, Err}
 use Rattle.std.specs.Prelude.{Result}
 use Rattle.serde_json.specs.Data.{Data, null}
 use Rattle.serde_json.specs.View.{view}
-use Rattle.serde_json.specs.declared.value.Value.{Value}
+use Rattle.serde_json.specs.declared.value.Value.{Value, Null, the_lemmas}
 use Rattle.pml_token.specs.Word.{Word}
 use Rattle.pml_lex.specs.declared.fault.LexError.{LexError}
 use Rattle.explain_tokens.specs.Placed.{ArePlaced, IsUnplaced}
@@ -12,6 +12,9 @@ use Rattle.call_signatures.specs.declared.calls.Call.{Call}
 use Rattle.call_signatures.specs.Calls.{call_around}
 use Rattle.call_signatures.specs.Definitions.{word_of, definition}
 use Rattle.lsp_signatures.specs.Help.{name_in, help_by, IsOfCall, defined, IsHelp, unknown, nowhere, of_call}
+
+pub null_view : view Null ≡ null
+null_view = search (rules, the_lemmas)
 
 -- the bytes from the first to a place
 pub before_place : (n : ℕ) (text part : List ℕ) → part ≡ take (n - 0) text → part ≡ take n text
@@ -22,7 +25,7 @@ pub defined_by : {E : Type 0} (page : Page) (c : Call) (n : List ℕ) (ts us ds 
 defined_by page c n ts us ds (Err e) placed same is_name is h = tt
 defined_by page c n ts us ds (Ok v) placed same is_name is h =
     let e : ds ≡ definition (word_of c) (name_in page c) ts =
-        is ∙ ap (definition (word_of c) n) same ∙ ap (λ (x : List ℕ). definition (word_of c) x ts) is_name in
+    is ∙ ap (definition (word_of c) n) same ∙ ap (λ (x : List ℕ). definition (word_of c) x ts) is_name in
     defined ts placed (h ∙ ap (help_by page c.commas) e)
 
 pub unknown_by : (page : Page) (at : ℕ) (front : List ℕ) (why : LexError) (d : Data) → front ≡ take (at - 0) page.text.now → IsUnplaced front why → d ≡ null

@@ -4,7 +4,7 @@
 ghost use Rattle.std.specs.Prelude.{◌≡◌, map, IfOk};
 ghost use Rattle.serde_json.specs.Data.{null};
 ghost use Rattle.serde_json.specs.View.{view};
-ghost use Rattle.lsp_signatures.specs.Help.{text_in, name_in, units_to, parameter_of, help_of, help_by, IsOfCall, IsHelp};
+ghost use Rattle.lsp_signatures.specs.Help.{text_in, name_in, units_to, parameter_of, signature_of, help_of, help_by, IsOfCall, IsHelp};
 
 use call_signatures::{Call, Part, call_around, definition, heading, parameters};
 use explain_tokens::placed;
@@ -63,6 +63,20 @@ fn listed(
     Ok(list)
 }
 
+/// A heading with its parameters.
+fn described(
+    alloc: Global,
+    page: Page<'_>,
+    heading: Part,
+    parts: &[Part],
+) -> Result<Value, AllocError>
+    ensures { IfOk result (λ v. view v ≡ signature_of page.entry parts.now heading) }
+{
+    let label = text_in(page, heading);
+    let parameters = Value::Array(listed(alloc, page, heading, parts)?);
+    json!(in alloc; {"label": label, "parameters": parameters})
+}
+
 /// A heading with its parameters, of which one is being written.
 fn help(
     alloc: Global,
@@ -73,9 +87,7 @@ fn help(
 ) -> Result<Value, AllocError>
     ensures { IfOk result (λ v. view v ≡ help_of page.entry number parts.now heading) }
 {
-    let label = text_in(page, heading);
-    let parameters = Value::Array(listed(alloc, page, heading, parts)?);
-    let signature = json!(in alloc; {"label": label, "parameters": parameters})?;
+    let signature = described(alloc, page, heading, parts)?;
     json!(in alloc; {"signatures": [signature], "activeSignature": 0, "activeParameter": number})
 }
 

@@ -15,8 +15,8 @@ pub refused_by : (text : List ℕ) (o : Option Verdict) (v : Verdict) → o ≡ 
 refused_by text o v is h = subst (IsVerdict text) is h
 
 goes_by : (s s' t t' : Seen) (at n n' : ℕ) (b : Bool) → s ≡ s' → t ≡ t' → n ≡ n' → b ≡ is_further s t at n → b ≡ true → is_further s' t' at n' ≡ true
-goes_by s s' t t' at n n' b p q r is yes =
-    sym (ap (λ (x : Seen). is_further x t at n) p ∙ ap (λ (x : Seen). is_further s' x at n) q ∙ ap (λ (x : ℕ). is_further s' t' at x) r) ∙ sym is ∙ yes
+goes_by s s' t t' at n n' b p q r is holds =
+    sym (ap (λ (x : Seen). is_further x t at n) p ∙ ap (λ (x : Seen). is_further s' x at n) q ∙ ap (λ (x : ℕ). is_further s' t' at x) r) ∙ sym is ∙ holds
 
 -- a text that is refused further on
 pub further_by : (text us vs : List ℕ) (v w : Verdict) (e : Exchange) (o : Option Verdict) (s t : Seen) (n : ℕ) (b : Bool) → us ≡ exchanged text e → vs ≡ us
@@ -24,10 +24,10 @@ pub further_by : (text us vs : List ℕ) (v w : Verdict) (e : Exchange) (o : Opt
     → OnTrue b (IsMended text v e)
 further_by text us vs v w e o s t n b written same is h before then size decides =
     OnTrue_from b (IsMended text v e)
-    (λ (yes : b ≡ true).
+    (λ (holds : b ≡ true).
     further w (subst (λ (x : List ℕ). IsRefusedSo x w) (same ∙ written) (refused_by vs o w is h))
     (goes_by s (seen_by v (length text)) t (seen_by w (length (exchanged text e))) e.at n (length (words_of text e.words)) b before
-    (then ∙ ap (λ (x : List ℕ). seen_by w (length x)) written) size decides yes))
+    (then ∙ ap (λ (x : List ℕ). seen_by w (length x)) written) size decides holds))
 
 -- the text itself
 pub here_by : {E : Type 0} (text : List ℕ) (v : Verdict) (r : Result (Option Exchange) E) → IsRefusedSo text v → IfOk r (λ o. IfSome o (IsMended text v))

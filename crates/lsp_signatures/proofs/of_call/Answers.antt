@@ -1,10 +1,9 @@
-use Rattle.std.proofs.Common.{refl}
 use Rattle.lsp_signatures.specs.Help.{uncut}
-use Rattle.lsp_signatures.proofs.Helping.{defined_by}
+use Rattle.lsp_signatures.proofs.Helping.{null_view, defined_by}
 use Rattle.lsp_signatures.proofs.of_call.Goals as goal
 
 pub returns-in-Err : goal.returns-in-Err
-returns-in-Err c = uncut c.in-Err.field-0 c.in-Err.ensures.err refl
+returns-in-Err c = uncut c.in-Err.field-0 c.in-Err.ensures.err null_view
 
 pub returns : goal.returns
 returns c =

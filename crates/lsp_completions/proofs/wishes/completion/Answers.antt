@@ -1,7 +1,7 @@
-use Rattle.std.proofs.Common.{◌≡◌, ◌-◌, refl, subst, take, List, ℕ, arith}
+use Rattle.std.proofs.Common.{◌≡◌, ◌-◌, subst, take, List, ℕ, arith}
 use Rattle.explain_tokens.specs.Placed.{IsUnplaced}
 use Rattle.lsp_completions.specs.Wishes.{nothing}
-use Rattle.lsp_completions.proofs.Offering.{offered_by}
+use Rattle.lsp_completions.proofs.Offering.{null_view, offered_by}
 use Rattle.lsp_completions.proofs.wishes.completion.Goals as goal
 
 -- the bytes from the first to a place
@@ -9,7 +9,7 @@ before_place : (n : ℕ) (text part : List ℕ) → part ≡ take (n - 0) text �
 before_place n text part h = subst (λ (m : ℕ). part ≡ take m text) (omega (arith)) h
 
 pub returns-in-Err : goal.returns-in-Err
-returns-in-Err c = nothing c.in-Err.field-0 (subst (λ (t : List ℕ). IsUnplaced t c.in-Err.field-0) (before_place c.args.offset c.args.page.text.now c.between.result.now c.between.ensures) c.in-Err.ensures.err) refl
+returns-in-Err c = nothing c.in-Err.field-0 (subst (λ (t : List ℕ). IsUnplaced t c.in-Err.field-0) (before_place c.args.offset c.args.page.text.now c.between.result.now c.between.ensures) c.in-Err.ensures.err) null_view
 
 pub returns : goal.returns
 returns c =
