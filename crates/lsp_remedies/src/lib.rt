@@ -3,7 +3,8 @@
 
 ghost use Rattle.std.specs.Prelude.{◌≡◌, ◌++◌, IfOk, string_bytes};
 ghost use Rattle.serde_json.specs.View.{view};
-ghost use Rattle.lsp_remedies.specs.Actions.{written_at, title_of, action_of, AreActions};
+ghost use Rattle.serde_json.specs.Data.{array, item, no_items};
+ghost use Rattle.lsp_remedies.specs.Actions.{written_at, title_of, edit_of, edits_of, action_of, AreActions};
 
 use lsp_names::symbols::text_shown;
 use lsp_places::page::{Page, range};
@@ -31,17 +32,46 @@ fn title(alloc: Global, words: &str) -> Result<String, AllocError>
     Ok(title)
 }
 
+/// The edit of an exchange.
+fn edit(alloc: Global, page: Page<'_>, exchange: Exchange) -> Result<Value, AllocError>
+    ensures { IfOk result (λ v. view v ≡ edit_of page.entry exchange) }
+{
+    let words = written_at(page, exchange);
+    let range = range(alloc, page, exchange.at, exchange.length)?;
+    json!(in alloc; {"range": range, "newText": words})
+}
+
+/// The edits of an exchange, by the name of the text.
+fn edits(alloc: Global, page: Page<'_>, exchange: Exchange) -> Result<Value, AllocError>
+    ensures { IfOk result (λ v. view v ≡ edits_of page.entry exchange) }
+{
+    let uri = page.uri;
+    let edit = edit(alloc, page, exchange)?;
+    json!(in alloc; {"changes": {(uri): [edit]}})
+}
+
 /// An exchange, as an edit that is offered.
 fn action(alloc: Global, page: Page<'_>, exchange: Exchange) -> Result<Value, AllocError>
     ensures { IfOk result (λ v. view v ≡ action_of page.entry exchange) }
 {
-    let uri = page.uri;
-    let words = written_at(page, exchange);
-    let title = title(alloc, words)?;
-    let range = range(alloc, page, exchange.at, exchange.length)?;
-    let edit = json!(in alloc; {"range": range, "newText": words})?;
-    let edits = json!(in alloc; {"changes": {(uri): [edit]}})?;
-    json!(in alloc; {"title": title, "kind": "quickfix", "isPreferred": true, "edit": edits})
+    let title = title(alloc, written_at(page, exchange))?;
+    let edit = edits(alloc, page, exchange)?;
+    json!(in alloc; {"title": title, "kind": "quickfix", "isPreferred": true, "edit": edit})
+}
+
+/// The list of one edit that is offered.
+fn only(alloc: Global, page: Page<'_>, exchange: Exchange) -> Result<Value, AllocError>
+    ensures { IfOk result (λ v. view v ≡ array (item (action_of page.entry exchange) no_items)) }
+{
+    let action = action(alloc, page, exchange)?;
+    json!(in alloc; [action])
+}
+
+/// The list of none.
+fn none(alloc: Global) -> Result<Value, AllocError>
+    ensures { IfOk result (λ v. view v ≡ array no_items) }
+{
+    json!(in alloc; [])
 }
 
 /// What mends the first refusal that touches a part of a text, if something does.
@@ -49,10 +79,7 @@ pub fn actions(alloc: Global, page: Page<'_>, part: Part) -> Result<Value, Alloc
     ensures { IfOk result (λ v. AreActions page.entry (view v)) }
 {
     match remedy_at(alloc, page.text, part)? {
-        Some(exchange) => {
-            let action = action(alloc, page, exchange)?;
-            json!(in alloc; [action])
-        }
-        None => json!(in alloc; []),
+        Some(exchange) => only(alloc, page, exchange),
+        None => none(alloc),
     }
 }
