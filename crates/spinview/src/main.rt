@@ -2,7 +2,6 @@
 #![tactic(auto)]
 
 mod asking;
-mod lines;
 mod opened;
 mod output;
 mod runs;

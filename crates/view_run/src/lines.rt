@@ -254,27 +254,6 @@ fn add_ending(
     Ok(())
 }
 
-/// Takes the next step of a run and writes it, or writes its end, where these are the moves of the state where the walk stands. Why it ends, where it does.
-pub fn add_next_of<S: Source>(
-    walk: &mut Walk<'_, '_>,
-    moves: &[Move],
-    replay: &mut Replay<S>,
-    limit: usize,
-    sheet: &mut Sheet,
-) -> Result<Option<&'static str>, Broken>
-    ensures { SameModel walk.old walk.new }
-{
-    let alloc = sheet.lines.allocator();
-    match follow(alloc, walk, moves, replay, limit)? {
-        Next::Take(choice) => Ok(take_choice(walk, moves, choice, sheet)?),
-        Next::End(end) => {
-            add_ending(walk, end, moves, sheet)?;
-            add_end_item(end.as_bytes(), &mut sheet.items);
-            Ok(Some(end))
-        }
-    }
-}
-
 /// Takes the next step of a run and writes it, or writes its end. Why it ends, where it does.
 pub fn add_next<S: Source>(
     walk: &mut Walk<'_, '_>,
@@ -285,5 +264,13 @@ pub fn add_next<S: Source>(
     ensures { SameModel walk.old walk.new }
 {
     let moves = walk.moves()?;
-    add_next_of(walk, moves.as_slice(), replay, limit, sheet)
+    let alloc = sheet.lines.allocator();
+    match follow(alloc, walk, moves.as_slice(), replay, limit)? {
+        Next::Take(choice) => Ok(take_choice(walk, moves.as_slice(), choice, sheet)?),
+        Next::End(end) => {
+            add_ending(walk, end, moves.as_slice(), sheet)?;
+            add_end_item(end.as_bytes(), &mut sheet.items);
+            Ok(Some(end))
+        }
+    }
 }
