@@ -14,7 +14,8 @@ returns-in-Some-names c =
     all_answered_on c.args.question c.args.document.now c.args.unit (view c.args.message.now) c.page-page.result c.page-page.ensures.text c.page-page.ensures.uri
     c.page-page.ensures.unit c.told_of.result
     (answered_by c.args.question c.page-page.result (view c.args.message.now) (view c.in-Some.parameters.now) c.in-Some-names.names.now (sym c.in-Some.ensures)
-    (told_of-requires c)
+    (subst (λ (t : List ℕ). AreMeant t c.in-Some-names.names.now.meant.items) (sym c.page-page.ensures.text)
+    (held (λ n. AreMeant c.args.document.now.known n.now.meant.items) c.names.result c.in-Some-names.names c.in-Some-names.is c.names.ensures))
     c.told_of.result c.told_of.ensures)
 
 pub returns-in-None : goal.returns-in-None

@@ -1,5 +1,5 @@
 use Rattle.std.proofs.Common.{sym}
 use Rattle.lsp_answers.proofs.remedies.remedies.Goals as goal
 
-pub returns-in_ok-actions : goal.returns-in_ok-actions
-returns-in_ok-actions c = record { part = c.in-Some.field-0; is_asked = sym c.in-Some.ensures; told = c.in_ok-actions.ensures }
+pub returns : goal.returns
+returns c = record { part = c.in-Some.field-0; is_asked = sym c.in-Some.ensures; told = c.in_ok-actions.ensures }

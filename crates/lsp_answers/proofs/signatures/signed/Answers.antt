@@ -1,5 +1,5 @@
 use Rattle.std.proofs.Common.{sym}
 use Rattle.lsp_answers.proofs.signatures.signed.Goals as goal
 
-pub returns-in_ok-signature : goal.returns-in_ok-signature
-returns-in_ok-signature c = record { at = c.in-Some.offset; is_asked = sym c.in-Some.ensures; told = c.in_ok-signature.ensures }
+pub returns-in_ok-signature-in-Some : goal.returns-in_ok-signature-in-Some
+returns-in_ok-signature-in-Some c = record { at = c.in-Some.offset; is_asked = sym c.in-Some.ensures; told = c.in_ok-signature-in-Some.ensures }
