@@ -11,8 +11,8 @@ use Rattle.pml_program.specs.declared.form.Form.TheVariants as kind
 use Rattle.pml_program.specs.declared.program.Slot.{Slot}
 use Rattle.pml_program.specs.declared.program.Fields.{Fields}
 use Rattle.promela_run.specs.State.{slot_of, cell_of, fields_at as listed_at, fields_of}
-use Rattle.promela_run.specs.Lines.{index, element, fields_path}
-use Rattle.promela_model.specs.Stands.{cells}
+use Rattle.promela_run.specs.Lines.{index_text, element, fields_path}
+use Rattle.promela_model.specs.Stands.{cells_in_all}
 use Rattle.check_meaning.specs.Tiled as tiled
 use Rattle.check_meaning.specs.Tiled.{fields_at, listed, HasWidth, Tile, TypedefsTile, OwnersFrom, is_struct, Leads, fields_under, first_of}
 use Rattle.check_meaning.proofs.Leading.{lies, element as element-in, Good, struct-cells, plain-cells, leads-within}
@@ -31,7 +31,7 @@ not-below : (m n : ℕ) → n ≤ m → ltb m n ≡ false
 not-below m n h = not-true (ltb m n) (λ t. absurd (omega (arith, h, (Decides-ltb m n).0 t)))
 
 -- the one with a cell, counted from where the first begins, and the number of the cell in it
-slot-at : (ts : List Fields) (at : ℕ) (ss : List Slot) → Tile ts at ss → at + cells ss ≤ MOST_CELLS → (k : ℕ) (s : Slot) → slice_get ss k ≡ Some s
+slot-at : (ts : List Fields) (at : ℕ) (ss : List Slot) → Tile ts at ss → at + cells_in_all ss ≤ MOST_CELLS → (k : ℕ) (s : Slot) → slice_get ss k ≡ Some s
     → (c : ℕ) → s.offset ≤ c → c < s.offset + s.length * s.stride → (slot_of ss (c - at) ≡ Some s) × (cell_of ss (c - at) ≡ c - s.offset)
 slot-at ts at [] h m k s e c p q = cc
 slot-at ts at (x ∷ ss) h m zero s e c p q =
@@ -197,14 +197,14 @@ module _ (ts : List Fields) (tile : TypedefsTile [] ts) (owners : OwnersFrom 1 t
     pub first : first_of q ≡ Some k
     pub dotted : further q (spelled ts ss q) ≡ codes "." ++ spelled ts ss q
 
-  spelled-one : (ss : List Slot) (k i : ℕ) (s : Slot) (p : List (ℕ × ℕ)) → slice_get ss k ≡ Some s → spelled ts ss ((k, i) ∷ p) ≡ (s.name.text ++ index s.array i) ++ further p (spelled ts (fields_under ts s.form) p)
+  spelled-one : (ss : List Slot) (k i : ℕ) (s : Slot) (p : List (ℕ × ℕ)) → slice_get ss k ≡ Some s → spelled ts ss ((k, i) ∷ p) ≡ (s.name.text ++ index_text s.array i) ++ further p (spelled ts (fields_under ts s.form) p)
   spelled-one ss k i s p e = ap (λ (x : Option Slot). elim x as (λ _. List ℕ) [
     | None ↦ []
-    | Some s ↦ (s.name.text ++ index s.array i) ++ further p (spelled ts (fields_under ts s.form) p)
+    | Some s ↦ (s.name.text ++ index_text s.array i) ++ further p (spelled ts (fields_under ts s.form) p)
   ]) e
 
-  element-is : (s : Slot) (c i r : ℕ) → c ≡ i * s.stride + r → r < s.stride → element s c ≡ s.name.text ++ index s.array i
-  element-is s c i r e h = ap (λ (m : ℕ). s.name.text ++ index s.array m) (ap (λ (d : ℕ). d / s.stride) e ∙ div-mul-add i s.stride r h)
+  element-is : (s : Slot) (c i r : ℕ) → c ≡ i * s.stride + r → r < s.stride → element s c ≡ s.name.text ++ index_text s.array i
+  element-is s c i r e h = ap (λ (m : ℕ). s.name.text ++ index_text s.array m) (ap (λ (d : ℕ). d / s.stride) e ∙ div-mul-add i s.stride r h)
 
   both : (a b x y : List ℕ) → a ≡ b → x ≡ y → a ++ x ≡ b ++ y
   both a b x y e f = ap (λ (l : List ℕ). l ++ x) e ∙ ap (λ (l : List ℕ). b ++ l) f
@@ -221,7 +221,7 @@ module _ (ts : List Fields) (tile : TypedefsTile [] ts) (owners : OwnersFrom 1 t
         there = e;
         from = omega arith;
         to = omega (arith, inside);
-        words = both (element s (cell - s.offset)) (s.name.text ++ index s.array i) (fields_path ts n s.form ((cell - s.offset) % s.stride)) []
+        words = both (element s (cell - s.offset)) (s.name.text ++ index_text s.array i) (fields_path ts n s.form ((cell - s.offset) % s.stride)) []
             (element-is s (cell - s.offset) i 0 (omega arith) some) (plain-path n s.form ((cell - s.offset) % s.stride) f) ∙ sym (spelled-one ss k i s [] e);
         first = refl;
         dotted = refl;
@@ -229,7 +229,7 @@ module _ (ts : List Fields) (tile : TypedefsTile [] ts) (owners : OwnersFrom 1 t
   printed (tiled.goes_on {ss} {fs} {k} {i} {t} {cell} {s} {p} e h f found rest) g zero before = absurd (let b = before k s t fs e f found in omega (arith, b.2))
   printed (tiled.goes_on {ss} {fs} {k} {i} {t} {cell} {s} {p} e h f found rest) g (suc n) before =
       let inner = struct-cells ts all ss g k t s fs e f found in
-      let low : cell < cells fs = leads-within ts all rest inner.1 in
+      let low : cell < cells_in_all fs = leads-within ts all rest inner.1 in
       let small : cell < s.stride = omega (arith, low, inner.0) in
       let inside = element-in i s.length s.stride cell h small in
       let b = before k s t fs e f found in
@@ -246,10 +246,10 @@ module _ (ts : List Fields) (tile : TypedefsTile [] ts) (owners : OwnersFrom 1 t
         there = e;
         from = omega arith;
         to = omega (arith, inside);
-        words = both (element s (here - s.offset)) (s.name.text ++ index s.array i) (fields_path ts (suc n) s.form ((here - s.offset) % s.stride)) (further p (spelled ts fs p))
+        words = both (element s (here - s.offset)) (s.name.text ++ index_text s.array i) (fields_path ts (suc n) s.form ((here - s.offset) % s.stride)) (further p (spelled ts fs p))
             (element-is s (here - s.offset) i cell at small)
             (ap (fields_path ts (suc n) s.form) within ∙ ap (λ (x : Form). fields_path ts (suc n) x cell) f ∙ field-path n t cell fs w.s found (ap (slot_of fs) none ∙ field.0) (ap (cell_of fs) none ∙ field.1) ∙ ap (λ (l : List ℕ). codes "." ++ l) w.words ∙ sym w.dotted)
-            ∙ ap (λ (xs : List Slot). (s.name.text ++ index s.array i) ++ further p (spelled ts xs p)) (sym under)
+            ∙ ap (λ (xs : List Slot). (s.name.text ++ index_text s.array i) ++ further p (spelled ts xs p)) (sym under)
             ∙ sym (spelled-one ss k i s p e);
         first = refl;
         dotted = refl;

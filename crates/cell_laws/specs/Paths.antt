@@ -9,7 +9,7 @@ use Rattle.pml_program.specs.declared.program.Fields.{Fields}
 use Rattle.pml_program.specs.declared.program.Program.{Program}
 use Rattle.promela_process.specs.declared.place.Place.{Place}
 use Rattle.promela_process.specs.Expressions.{Reading, val, place}
-use Rattle.promela_run.specs.Lines.{index, path}
+use Rattle.promela_run.specs.Lines.{index_text, path}
 use Rattle.promela_model.specs.Stands.{Place as Meant, StandsReference, Globals}
 use Rattle.check_meaning.specs.Tiled.{is_struct, Leads, AreWithin, AreAmong, variables_of, fields_under, names_along, indices_along, names_of}
 
@@ -23,7 +23,7 @@ abbrev pub spelled : List Fields → List Slot → List (ℕ × ℕ) → List �
 spelled ts ss [] = []
 spelled ts ss (x ∷ p) = elim (slice_get ss x.0) as (λ _. List ℕ) [
   | None ↦ []
-  | Some s ↦ (s.name.text ++ index s.array x.1) ++ further p (spelled ts (fields_under ts s.form) p)
+  | Some s ↦ (s.name.text ++ index_text s.array x.1) ++ further p (spelled ts (fields_under ts s.form) p)
 ]
 
 -- a value line names a cell of this variable by a path that leads there, in words

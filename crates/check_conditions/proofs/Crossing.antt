@@ -15,7 +15,7 @@ use Rattle.promela_model.specs.declared.mark.What.{What}
 use Rattle.promela_model.specs.declared.mark.What.TheVariants as what
 use Rattle.promela_model.specs.declared.mark.Mark.{Mark}
 use Rattle.promela_model.specs.declared.condition.Condition.TheVariants as condition
-use Rattle.promela_model.specs.Decided.{opened, innermost_step, round, is_label, labelled, Applies, crosses_step}
+use Rattle.promela_model.specs.Decided.{opened, innermost_step, round, is_label, labelled, AppliesToMarks, crosses_step}
 use Rattle.check_conditions.specs.Step.{step_there, same_step, elsewhere, labels_in}
 use Rattle.check_conditions.specs.Laws.{IsFirstLabel}
 use Rattle.check_conditions.proofs.Looking.{back_more}
@@ -126,7 +126,7 @@ apart (Some a) (Some b) h = elim (eqb_tells a b) [
   | inr e ↦ e.0
 ]
 
-pub goto_crosses : (ms : List Mark) (o k j : ℕ) (g l : Word) → slice_get ms k ≡ Some (mark o (what.Goto g)) → IsFirstLabel ms o j l → g.text ≡ l.text → (round (take k ms)).step ≢ (round (take j ms)).step → Applies condition.Step ms
+pub goto_crosses : (ms : List Mark) (o k j : ℕ) (g l : Word) → slice_get ms k ≡ Some (mark o (what.Goto g)) → IsFirstLabel ms o j l → g.text ≡ l.text → (round (take k ms)).step ≢ (round (take j ms)).step → AppliesToMarks condition.Step ms
 goto_crosses ms o k j g l s h same far =
     (k, mark o (what.Goto g), s, ap (λ n. elsewhere (labels_in ms o n) (round (take k ms))) same ∙ ap (λ p. elsewhere p (round (take k ms))) (known ms o j l h) ∙ ap not (apart (round (take j ms)).step (round (take k ms)).step far))
 

@@ -4,11 +4,11 @@ use Rattle.promela_model.specs.declared.mark.Mark.{Mark}
 use Rattle.check_conditions.specs.declared.find.Found.{Found}
 use Rattle.promela_model.specs.declared.condition.Condition.{Condition}
 use Rattle.promela_model.specs.declared.condition.Condition.TheVariants as condition
-use Rattle.promela_model.specs.Decided.{Somewhere, Nowhere, broken, Applies, Fits}
+use Rattle.promela_model.specs.Decided.{Somewhere, Nowhere, broken, AppliesToMarks, FitsMarks}
 
 abbrev pub Decides : Bool → Condition → List Mark → Type 0
-Decides true r ms = Applies r ms
-Decides false r ms = Fits r ms
+Decides true r ms = AppliesToMarks r ms
+Decides false r ms = FitsMarks r ms
 
 -- the same of a test that is asked of each mark
 abbrev pub Finds : Bool → (List Mark → Mark → Bool) → List Mark → Type 0

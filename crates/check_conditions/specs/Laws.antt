@@ -6,11 +6,11 @@ use Rattle.promela_model.specs.declared.mark.What.TheVariants as what
 use Rattle.promela_model.specs.declared.mark.Mark.{Mark}
 use Rattle.promela_model.specs.declared.condition.Condition.{Condition}
 use Rattle.promela_model.specs.declared.condition.Condition.TheVariants as condition
-use Rattle.promela_model.specs.Decided.{round, Applies, Fits, crosses_step}
+use Rattle.promela_model.specs.Decided.{round, AppliesToMarks, FitsMarks, crosses_step}
 
 -- no condition both applies and fits
 abbrev pub Exclude : Type 0
-Exclude = (r : Condition) (ms : List Mark) → Applies r ms → Fits r ms → ⊥
+Exclude = (r : Condition) (ms : List Mark) → AppliesToMarks r ms → FitsMarks r ms → ⊥
 
 -- the label at j is the first of its name among o's
 pub record IsFirstLabel (ms : List Mark) (o j : ℕ) (l : Word) : Type 0 where
@@ -21,7 +21,7 @@ pub record IsFirstLabel (ms : List Mark) (o j : ℕ) (l : Word) : Type 0 where
 abbrev pub GotoCrosses : Type 0
 GotoCrosses =
     (ms : List Mark) (o k j : ℕ) (g l : Word) → slice_get ms k ≡ Some (mark o (what.Goto g)) → IsFirstLabel ms o j l
-    → g.text ≡ l.text → (round (take k ms)).step ≢ (round (take j ms)).step → Applies condition.Step ms
+    → g.text ≡ l.text → (round (take k ms)).step ≢ (round (take j ms)).step → AppliesToMarks condition.Step ms
 
 -- and no other goto does
 abbrev pub CrossingGoto : Type 0

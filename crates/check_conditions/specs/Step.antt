@@ -4,7 +4,7 @@ use Rattle.std.specs.Option.{option_or, option_eq, option_map_or}
 use Rattle.promela_model.specs.declared.mark.What.{What}
 use Rattle.promela_model.specs.declared.mark.Mark.{Mark}
 use Rattle.promela_model.specs.declared.round.Round.{Round}
-use Rattle.promela_model.specs.Decided.{is_label, labelled, round, loose, begins, started}
+use Rattle.promela_model.specs.Decided.{is_label, labelled, round, loose, starts_processes, started}
 
 -- the innermost d_step round the label n of o, where this mark is it
 abbrev pub step_there : ℕ → List ℕ → ℕ → What → Option ℕ → Option (Option ℕ)
@@ -36,7 +36,7 @@ breaks_loose before m = loose (round before) m.what
 
 -- a process begins with this mark
 abbrev pub begins_there : List Mark → Mark → Bool
-begins_there before m = begins m.what
+begins_there before m = starts_processes m.what
 
 -- how many processes begin, mark by mark
 abbrev pub begun : List Mark → ℕ

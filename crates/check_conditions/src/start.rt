@@ -3,7 +3,7 @@
 ghost use Rattle.std.specs.Prelude.{◌≡◌, ℕ, ◌+◌, ◌^◌, ◌<◌, ◌≤◌, min, nat_eq, if◌then◌else◌, length, slice_index_or, IfOk, OnOk};
 ghost use Rattle.check_names.specs.Entry.{found};
 ghost use Rattle.check_names.specs.Env.{env};
-ghost use Rattle.promela_model.specs.Decided.{begins, started, channels_of, made, channels_in, first_channels};
+ghost use Rattle.promela_model.specs.Decided.{starts_processes, started, channels_of, made, channels_in, first_channels};
 ghost use Rattle.check_conditions.specs.Step.{raised, begins_there, begun, by_processes};
 ghost use Rattle.check_conditions.specs.Finds.{Finds, Decides};
 ghost use Rattle.promela_model.specs.declared.condition.Condition.TheVariants as condition;
@@ -18,7 +18,7 @@ use sqlite_items::Items;
 use std::alloc::{AllocError, Global};
 
 fn begins(what: &What) -> bool
-    ensures { result ≡ begins what.now }
+    ensures { result ≡ starts_processes what.now }
 {
     match what {
         What::Starts(_) => true,

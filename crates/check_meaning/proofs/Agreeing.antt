@@ -9,7 +9,7 @@ use Rattle.promela_model.specs.declared.thing.Thing.{Thing}
 use Rattle.promela_model.specs.declared.thing.Thing.TheVariants as thing
 use Rattle.promela_model.specs.declared.thing.Variable.{Variable}
 use Rattle.check_names.specs.Entry.{Entry, found}
-use Rattle.promela_model.specs.Names.{is_any, is_pid, is_count, meaning, only_process, field as field_of}
+use Rattle.promela_model.specs.Names.{is_any, is_pid, is_count, meaning, only_process, field_of_type as field_of}
 use Rattle.pml_program.specs.declared.form.Form.{Form}
 use Rattle.pml_program.specs.declared.form.Form.TheVariants as kind
 use Rattle.pml_program.specs.declared.expr.Expr.{Expr}

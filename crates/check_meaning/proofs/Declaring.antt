@@ -10,7 +10,7 @@ use Rattle.pml_tree.specs.declared.tree.Initial.{Initial as TreeInitial}
 use Rattle.pml_tree.specs.declared.tree.Initial.TheVariants as begin
 use Rattle.pml_tree.specs.declared.tree.Variable.{Variable as TreeVariable}
 use Rattle.pml_tree.specs.declared.tree.Expr.{Expr as TreeExpr}
-use Rattle.promela_model.specs.Stands.{Structure, Globals, variable_named, typedef_named, is_declared, proctype_named, cells}
+use Rattle.promela_model.specs.Stands.{Structure, Globals, variable_named, typedef_named, is_declared, proctype_named, cells_in_all}
 use Rattle.promela_model.specs.Marks.{made_by}
 use Rattle.check_uses.specs.Parts.{size_of}
 use Rattle.promela_model.specs.declared.mark.Constant.{Constant}
@@ -21,7 +21,7 @@ use Rattle.promela_model.specs.declared.mark.Role.TheVariants as role
 use Rattle.promela_model.specs.declared.thing.Thing.{Thing}
 use Rattle.promela_model.specs.declared.thing.Thing.TheVariants as thing
 use Rattle.check_names.specs.Entry.{Entry, entry, found}
-use Rattle.promela_model.specs.Names.{visible, constants_in, form, stride, form_of, stride_of, user, only_process, constant, counted, length_of, count_of}
+use Rattle.promela_model.specs.Names.{visible, constants_in, form, stride, form_of, stride_of, user, only_process, constant, cells_counted, length_of, count_of}
 use Rattle.check_names.specs.Totals.{most_cells}
 use Rattle.check_names.specs.Env.{held, variables, constants, thing_of, after}
 use Rattle.pml_program.specs.declared.form.Form.{Form}
@@ -95,8 +95,8 @@ module _ (gs : Globals) (ls : List Slot) (all es : List Entry) (u : ℕ) (sees :
   visible-global n e =
       ap (option_or (found es u n)) (sym (or-nothing (found es 0 n))) ∙ (own-none ls es u sees.own n e).1 None ∙ or-nothing (found es 0 n)
 
-  typedef-is : (n : List ℕ) (x : Structure) → variable_named ls n ≡ None → typedef_named gs.typedefs n ≡ Some x → visible (found es) u n ≡ Some (thing.Typedef x.number (counted (cells x.fields)))
-  typedef-is n x h e = visible-global n h ∙ typedef-found (found es 0 n) x.number (counted (cells x.fields)) (sym (ap as_typedef e) ∙ sees.global.typedefs n)
+  typedef-is : (n : List ℕ) (x : Structure) → variable_named ls n ≡ None → typedef_named gs.typedefs n ≡ Some x → visible (found es) u n ≡ Some (thing.Typedef x.number (cells_counted (cells_in_all x.fields)))
+  typedef-is n x h e = visible-global n h ∙ typedef-found (found es 0 n) x.number (cells_counted (cells_in_all x.fields)) (sym (ap as_typedef e) ∙ sees.global.typedefs n)
 
   hidden-is : (n : List ℕ) (p : ℕ × Slot) → variable_named ls n ≡ Some p → (form_of (visible (found es) u n) ≡ kind.Unknown) × (stride_of (visible (found es) u n) ≡ 1)
   hidden-is n p e = (ap form_of (visible-local n p e), ap stride_of (visible-local n p e))
@@ -160,14 +160,14 @@ slot_with n f a o l w x = record { name = n; form = f; array = a; offset = o; le
 abbrev pub slot_in : List Entry → List Entry → ℕ → ℕ → TreeVariable → Slot
 slot_in all es o u v = slot_with v.name (form (found es) u v.sort) (is_some (size_of v.size)) (min (held es o) most_cells) (length_of (size_of v.size)) (stride (found es) u v.sort) (initial v.initial (scope all es u))
 
-module _ (gs : Globals) (ls before : List Slot) (all es : List Entry) (o u : ℕ) (sees : Sees gs ls (scope all es u)) (count : held es o ≡ cells before) where
-  variable-same : (v : TreeVariable) → slot_with v.name (form (found es) u v.sort) (is_some v.size) (counted (cells before)) (length_of (size_of v.size)) (stride (found es) u v.sort) (initial v.initial (scope all es u)) ≡ slot_in all es o u v
+module _ (gs : Globals) (ls before : List Slot) (all es : List Entry) (o u : ℕ) (sees : Sees gs ls (scope all es u)) (count : held es o ≡ cells_in_all before) where
+  variable-same : (v : TreeVariable) → slot_with v.name (form (found es) u v.sort) (is_some v.size) (cells_counted (cells_in_all before)) (length_of (size_of v.size)) (stride (found es) u v.sort) (initial v.initial (scope all es u)) ≡ slot_in all es o u v
   variable-same v =
       let f : Form = form (found es) u v.sort in
       let w : ℕ = stride (found es) u v.sort in
       let x : Initial = initial v.initial (scope all es u) in
-      ap (λ (a : Bool). slot_with v.name f a (counted (cells before)) (length_of (size_of v.size)) w x) (array-is v.size)
-      ∙ ap (λ (c : ℕ). slot_with v.name f (is_some (size_of v.size)) (counted c) (length_of (size_of v.size)) w x) (sym count)
+      ap (λ (a : Bool). slot_with v.name f a (cells_counted (cells_in_all before)) (length_of (size_of v.size)) w x) (array-is v.size)
+      ∙ ap (λ (c : ℕ). slot_with v.name f (is_some (size_of v.size)) (cells_counted c) (length_of (size_of v.size)) w x) (sym count)
 
   pub variable-stands : (v : TreeVariable) → StandsVariable gs ls before v (slot_in all es o u v)
   variable-stands v = subst (StandsVariable gs ls before v) (variable-same v) (stands.variable (sort-stands gs ls all es u sees v.sort) (initial-stands gs ls all es u sees v.initial))
@@ -175,9 +175,9 @@ module _ (gs : Globals) (ls before : List Slot) (all es : List Entry) (o u : ℕ
   pub only_variable : {v : TreeVariable} {s : Slot} → StandsVariable gs ls before v s → s ≡ slot_in all es o u v
   only_variable (stands.variable {v} {f} {width} {x} h g) =
       let type = only_sort gs ls all es u sees h in
-      ap (λ (y : Form). slot_with v.name y (is_some v.size) (counted (cells before)) (length_of (size_of v.size)) width x) type.0
-      ∙ ap (λ (y : ℕ). slot_with v.name (form (found es) u v.sort) (is_some v.size) (counted (cells before)) (length_of (size_of v.size)) y x) type.1
-      ∙ ap (slot_with v.name (form (found es) u v.sort) (is_some v.size) (counted (cells before)) (length_of (size_of v.size)) (stride (found es) u v.sort)) (only_initial gs ls all es u sees g)
+      ap (λ (y : Form). slot_with v.name y (is_some v.size) (cells_counted (cells_in_all before)) (length_of (size_of v.size)) width x) type.0
+      ∙ ap (λ (y : ℕ). slot_with v.name (form (found es) u v.sort) (is_some v.size) (cells_counted (cells_in_all before)) (length_of (size_of v.size)) y x) type.1
+      ∙ ap (slot_with v.name (form (found es) u v.sort) (is_some v.size) (cells_counted (cells_in_all before)) (length_of (size_of v.size)) (stride (found es) u v.sort)) (only_initial gs ls all es u sees g)
       ∙ variable-same v
 
 -- ---- what is declared so far, and what is found of it
@@ -186,7 +186,7 @@ module _ (gs : Globals) (ls before : List Slot) (all es : List Entry) (o u : ℕ
 pub record Base (gs : Globals) (k : ℕ) (es : List Entry) : Type 0 where
   pub agrees : Agrees gs es
   pub count : variables es 0 ≡ length gs.variables
-  pub held : held es 0 ≡ cells gs.variables
+  pub held : held es 0 ≡ cells_in_all gs.variables
   pub constants : constants es ≡ length gs.constants
   pub bound : (t : ℕ) → has_number gs.typedefs t ≡ true → t < k
   pub positive : (t : ℕ) → has_number gs.typedefs t ≡ true → 0 < t
@@ -202,7 +202,7 @@ pub record Ready (gs : Globals) (start : List Entry) (o : ℕ) (x : Known) : Typ
   pub own : (n : List ℕ) → found x.names o n ≡ as_thing (variable_named x.slots n)
   pub known : AreKnown gs.typedefs x.slots
   pub count : variables x.names o ≡ length x.slots
-  pub held : held x.names o ≡ cells x.slots
+  pub held : held x.names o ≡ cells_in_all x.slots
   pub below : Below (o + 1) x.names
   pub still : (n : List ℕ) → found x.names 0 n ≡ found start 0 n
 

@@ -13,7 +13,7 @@ use Rattle.check_names.specs.Entry.{Entry, entry, found, is_named}
 use Rattle.promela_model.specs.Names.{variables_in, cells_in, constants_in}
 use Rattle.check_names.specs.Env.{variables, held, constants, after, add, thing_of}
 use Rattle.pml_program.specs.declared.program.Slot.{Slot}
-use Rattle.promela_model.specs.Stands.{Structure, variable_named, constant_named, typedef_named, has_name, cells}
+use Rattle.promela_model.specs.Stands.{Structure, variable_named, constant_named, typedef_named, has_name, cells_in_all}
 use Rattle.check_meaning.proofs.Words.{one_behind, one_more}
 use Rattle.check_meaning.proofs.Things.{as_thing, IsKnown, AreKnown}
 
@@ -200,7 +200,7 @@ pub name-more : (ws : List Word) (w : Word) (n : List ℕ) → has_name (ws ++ w
 name-more [] w n = or-false (bytes_eq n w.text)
 name-more (x ∷ ws) w n = ap (λ (b : Bool). bytes_eq n x.text || b) (name-more ws w n) ∙ sym (or-assoc (bytes_eq n x.text) (has_name ws n) (bytes_eq n w.text))
 
-pub cells-more : (ss : List Slot) (s : Slot) → cells (ss ++ s ∷ []) ≡ cells ss + s.length * s.stride
+pub cells-more : (ss : List Slot) (s : Slot) → cells_in_all (ss ++ s ∷ []) ≡ cells_in_all ss + s.length * s.stride
 cells-more [] s = omega arith
 cells-more (x ∷ ss) s = omega (arith, cells-more ss s)
 

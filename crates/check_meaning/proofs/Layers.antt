@@ -13,7 +13,7 @@ use Rattle.pml_tree.specs.declared.tree.Expr.{Expr as TreeExpr, Expr-F, map-Expr
 use Rattle.pml_tree.specs.declared.tree.Expr.TheVariants as e
 use Rattle.pml_tree.specs.declared.tree.Reference.{Reference, fold-roll-Reference}
 use Rattle.pml_tree.specs.declared.tree.Step.{Step, fold-roll-Step}
-use Rattle.promela_model.specs.Names.{number as number_of, truth_of}
+use Rattle.promela_model.specs.Names.{number_from_digits as number_of, truth_of}
 use Rattle.promela_model.specs.declared.mark.Constant.{Constant}
 use Rattle.promela_model.specs.declared.mark.Constant.TheVariants as constant
 use Rattle.pml_program.specs.declared.expr.Expr.{Expr}
@@ -23,7 +23,7 @@ use Rattle.check_resolve.specs.declared.reached.Reached.{Reached}
 use Rattle.check_resolve.specs.declared.reached.Reached.TheVariants as r
 use Rattle.check_resolve.specs.Numbered.{Scope, Stepped, Valued, Wanted, Reaching, reached, literal, truth, signed, read, target, received, at_scope, argument_layer, expr_layer, reference_layer, step_layer, numbered, numbered_argument, numbered_reference, numbered_step}
 use Rattle.promela_model.specs.Stands.{value_of, with_sign, as_value, as_place, as_wanted}
-use Rattle.promela_model.specs.GrammarOfExpressions.{step_of, reference_of}
+use Rattle.promela_model.specs.GrammarOfExpressions.{named_step, reference_of}
 use Rattle.check_meaning.proofs.Agreeing.{meaning_of}
 
 -- ---- the words of the numbering are those of the relation
@@ -127,9 +127,9 @@ module _ (sc : Scope) where
   indexed None = None
   indexed (Some a) = Some (numbered a sc)
 
-  index-is : (n : Word) (i : Option TreeExpr) → (numbered_step (step_of n i)).index sc ≡ indexed i
+  index-is : (n : Word) (i : Option TreeExpr) → (numbered_step (named_step n i)).index sc ≡ indexed i
   index-is n None = ap (λ (s : Stepped). s.index sc) (fold-roll-Step Wanted Valued Reaching Stepped argument_layer expr_layer reference_layer step_layer (record { name = n; index = None }))
   index-is n (Some a) = ap (λ (s : Stepped). s.index sc) (fold-roll-Step Wanted Valued Reaching Stepped argument_layer expr_layer reference_layer step_layer (record { name = n; index = Some a }))
 
-  pub step-is : (n : Word) (i : Option TreeExpr) → ((numbered_step (step_of n i)).name ≡ n.text) × ((numbered_step (step_of n i)).index sc ≡ indexed i)
+  pub step-is : (n : Word) (i : Option TreeExpr) → ((numbered_step (named_step n i)).name ≡ n.text) × ((numbered_step (named_step n i)).index sc ≡ indexed i)
   step-is n i = (ap (λ (s : Stepped). s.name) (fold-roll-Step Wanted Valued Reaching Stepped argument_layer expr_layer reference_layer step_layer (record { name = n; index = i })), index-is n i)

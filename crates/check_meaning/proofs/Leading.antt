@@ -12,8 +12,8 @@ use Rattle.pml_program.specs.declared.program.Slot.{Slot}
 use Rattle.pml_program.specs.declared.program.Fields.{Fields}
 use Rattle.pml_program.specs.declared.program.Proctype.{Proctype}
 use Rattle.pml_program.specs.declared.program.Program.{Program}
-use Rattle.promela_model.specs.Stands.{cells}
-use Rattle.promela_model.specs.Names.{counted}
+use Rattle.promela_model.specs.Stands.{cells_in_all}
+use Rattle.promela_model.specs.Names.{cells_counted}
 use Rattle.check_meaning.specs.Tiled as tiled
 use Rattle.check_meaning.specs.Tiled.{fields_at, HasWidth, Begins, Tile, TypedefsTile, IsTiled, is_struct, Leads, HasPaths, IsOwner}
 use Rattle.check_meaning.proofs.Tiling.{tile-still, fields-still, model-tiled}
@@ -27,21 +27,21 @@ pub record Lies (ts : List Fields) (at most : ℕ) (s : Slot) : Type 0 where
   pub some : 0 < s.length
   pub width : HasWidth ts s.form s.stride
 
-few : (n : ℕ) → n ≤ MOST_CELLS → counted n ≡ n
+few : (n : ℕ) → n ≤ MOST_CELLS → cells_counted n ≡ n
 few n h = omega (arith, h)
 
-pub lies : (ts : List Fields) (at : ℕ) (ss : List Slot) → Tile ts at ss → at + cells ss ≤ MOST_CELLS → (k : ℕ) (s : Slot) → slice_get ss k ≡ Some s → Lies ts at (at + cells ss) s
+pub lies : (ts : List Fields) (at : ℕ) (ss : List Slot) → Tile ts at ss → at + cells_in_all ss ≤ MOST_CELLS → (k : ℕ) (s : Slot) → slice_get ss k ≡ Some s → Lies ts at (at + cells_in_all ss) s
 lies ts at [] h m k s e = cc
 lies ts at (x ∷ ss) h m zero s e =
     let same : x ≡ s = cc in
     let o : x.offset ≡ at = h.0.offset ∙ few at (omega (arith, m)) in
-    subst (Lies ts at (at + cells (x ∷ ss))) same (record { from = omega (arith, o); to = omega (arith, o); some = h.0.some; width = h.0.width })
+    subst (Lies ts at (at + cells_in_all (x ∷ ss))) same (record { from = omega (arith, o); to = omega (arith, o); some = h.0.some; width = h.0.width })
 lies ts at (x ∷ ss) h m (suc k) s e =
     let l = lies ts (at + x.length * x.stride) ss h.1 (omega (arith, m)) k s e in
     record { from = omega (arith, l.from); to = omega (arith, l.to); some = l.some; width = l.width }
 
 -- two variables with one cell are the same
-pub apart : (ts : List Fields) (at : ℕ) (ss : List Slot) → Tile ts at ss → at + cells ss ≤ MOST_CELLS → (k m : ℕ) (s t : Slot) → slice_get ss k ≡ Some s → slice_get ss m ≡ Some t
+pub apart : (ts : List Fields) (at : ℕ) (ss : List Slot) → Tile ts at ss → at + cells_in_all ss ≤ MOST_CELLS → (k m : ℕ) (s t : Slot) → slice_get ss k ≡ Some s → slice_get ss m ≡ Some t
     → (c : ℕ) → s.offset ≤ c → c < s.offset + s.length * s.stride → t.offset ≤ c → c < t.offset + t.length * t.stride → k ≡ m
 apart ts at [] h b k m s t e f c p q u v = cc
 apart ts at (x ∷ ss) h b zero zero s t e f c p q u v = refl
@@ -76,7 +76,7 @@ nat-below (suc c) (suc n) = next (nat-below c n)
     next (inl h) = inl (omega (arith, h))
     next (inr h) = inr (omega (arith, h))
 
-locate : (ts : List Fields) (at : ℕ) (ss : List Slot) → Tile ts at ss → at + cells ss ≤ MOST_CELLS → (c : ℕ) → at ≤ c → c < at + cells ss → Located ss c
+locate : (ts : List Fields) (at : ℕ) (ss : List Slot) → Tile ts at ss → at + cells_in_all ss ≤ MOST_CELLS → (c : ℕ) → at ≤ c → c < at + cells_in_all ss → Located ss c
 locate ts at [] h b c p q = absurd (omega (arith, p, q))
 locate ts at (x ∷ ss) h b c p q = go (nat-below c (at + x.length * x.stride)) (λ r. locate ts (at + x.length * x.stride) ss h.1 (omega (arith, b)) c r (omega (arith, q)))
   where
@@ -105,9 +105,9 @@ module _ (ts : List Fields) (all : (t : ℕ) (fs : List Slot) → fields_at ts t
   -- variables that lie one behind another from cell 0 on
   pub record Good (ss : List Slot) : Type 0 where
     pub tile : Tile ts 0 ss
-    pub few : cells ss ≤ MOST_CELLS
+    pub few : cells_in_all ss ≤ MOST_CELLS
 
-  pub lies-in : (ss : List Slot) → Good ss → (k : ℕ) (s : Slot) → slice_get ss k ≡ Some s → Lies ts 0 (cells ss) s
+  pub lies-in : (ss : List Slot) → Good ss → (k : ℕ) (s : Slot) → slice_get ss k ≡ Some s → Lies ts 0 (cells_in_all ss) s
   lies-in ss g k s e = let l = lies ts 0 ss g.tile (omega (arith, g.few)) k s e in record { from = omega arith; to = omega (arith, l.to); some = l.some; width = l.width }
 
   stride-few : (ss : List Slot) → Good ss → (k : ℕ) (s : Slot) → slice_get ss k ≡ Some s → s.stride ≤ MOST_CELLS
@@ -117,15 +117,15 @@ module _ (ts : List Fields) (all : (t : ℕ) (fs : List Slot) → fields_at ts t
       omega (arith, m, l.to, g.few)
 
   -- an element of a typedef's type has just the cells of its fields
-  pub struct-cells : (ss : List Slot) → Good ss → (k t : ℕ) (s : Slot) (fs : List Slot) → slice_get ss k ≡ Some s → s.form ≡ kind.Struct t → fields_at ts t ≡ Some fs → (cells fs ≡ s.stride) × Good fs
+  pub struct-cells : (ss : List Slot) → Good ss → (k t : ℕ) (s : Slot) (fs : List Slot) → slice_get ss k ≡ Some s → s.form ≡ kind.Struct t → fields_at ts t ≡ Some fs → (cells_in_all fs ≡ s.stride) × Good fs
   struct-cells ss g k t s fs e f h =
       let l = lies-in ss g k s e in
       let w : HasWidth ts (kind.Struct t) s.stride = subst (λ (u : Form). HasWidth ts u s.stride) f l.width in
       let found : Some w.0 ≡ Some fs = sym w.1 ∙ h in
       let same : w.0 ≡ fs = cc in
-      let width : s.stride ≡ counted (cells fs) = w.2 ∙ ap (λ (us : List Slot). counted (cells us)) same in
+      let width : s.stride ≡ cells_counted (cells_in_all fs) = w.2 ∙ ap (λ (us : List Slot). cells_counted (cells_in_all us)) same in
       let small = stride-few ss g k s e in
-      let just : cells fs ≡ s.stride = omega (arith, width, small) in
+      let just : cells_in_all fs ≡ s.stride = omega (arith, width, small) in
       (just, record { tile = all t fs h; few = omega (arith, just, small) })
 
   pub plain-cells : (ss : List Slot) → Good ss → (k : ℕ) (s : Slot) → slice_get ss k ≡ Some s → is_struct s.form ≡ false → s.stride ≡ 1
@@ -137,20 +137,20 @@ module _ (ts : List Fields) (all : (t : ℕ) (fs : List Slot) → fields_at ts t
       go (kind.Unsigned n) w h = w
       go kind.Unknown w h = w
 
-  way-below : (ss : List Slot) → Good ss → (k i r : ℕ) (s : Slot) → Way ss k i r s → s.offset + (i * s.stride + r) < cells ss
+  way-below : (ss : List Slot) → Good ss → (k i r : ℕ) (s : Slot) → Way ss k i r s → s.offset + (i * s.stride + r) < cells_in_all ss
   way-below ss g k i r s w =
       let l = lies-in ss g k s w.there in
       let e = element i s.length s.stride r w.index w.inside in
       omega (arith, l.to, e)
 
-  pub leads-within : {ss : List Slot} {c : ℕ} {p : List (ℕ × ℕ)} → Leads ts ss c p → Good ss → c < cells ss
+  pub leads-within : {ss : List Slot} {c : ℕ} {p : List (ℕ × ℕ)} → Leads ts ss c p → Good ss → c < cells_in_all ss
   leads-within (tiled.ends {ss} {k} {i} {s} e h f) g =
       let one = plain-cells ss g k s e f in
       let b = way-below ss g k i 0 s (record { there = e; index = h; inside = omega (arith, one) }) in
       omega (arith, b)
   leads-within (tiled.goes_on {ss} {fs} {k} {i} {t} {cell} {s} e h f found rest) g =
       let inner = struct-cells ss g k t s fs e f found in
-      let b : cell < cells fs = leads-within rest inner.1 in
+      let b : cell < cells_in_all fs = leads-within rest inner.1 in
       way-below ss g k i cell s (record { there = e; index = h; inside = omega (arith, b, inner.0) })
 
   record SameWay (k m i j r q : ℕ) : Type 0 where
@@ -198,7 +198,7 @@ module _ (ts : List Fields) (all : (t : ℕ) (fs : List Slot) → fields_at ts t
   one-path (tiled.ends {ss} {k} {i} {s} e h f) g us d q same at (tiled.goes_on {fs} {k = m} {i = j} {t = u} {cell} {s = t} e2 h2 f2 found2 rest2) =
       let there : slice_get ss m ≡ Some t = ap (λ (xs : List Slot). slice_get xs m) same ∙ e2 in
       let inner = struct-cells ss g m u t fs there f2 found2 in
-      let b : cell < cells fs = leads-within rest2 inner.1 in
+      let b : cell < cells_in_all fs = leads-within rest2 inner.1 in
       let v : Way ss k i 0 s = record { there = e; index = h; inside = omega (arith, plain-cells ss g k s e f) } in
       let w : Way ss m j cell t = record { there = there; index = h2; inside = omega (arith, b, inner.0) } in
       let r = same-way ss g k m i j 0 cell s t v w (omega (arith, at)) in
@@ -206,7 +206,7 @@ module _ (ts : List Fields) (all : (t : ℕ) (fs : List Slot) → fields_at ts t
   one-path (tiled.goes_on {ss} {fs} {k} {i} {t = u} {cell} {s} e h f found rest) g us d q same at (tiled.ends {k = m} {i = j} {s = t} e2 h2 f2) =
       let there : slice_get ss m ≡ Some t = ap (λ (xs : List Slot). slice_get xs m) same ∙ e2 in
       let inner = struct-cells ss g k u s fs e f found in
-      let b : cell < cells fs = leads-within rest inner.1 in
+      let b : cell < cells_in_all fs = leads-within rest inner.1 in
       let v : Way ss k i cell s = record { there = e; index = h; inside = omega (arith, b, inner.0) } in
       let w : Way ss m j 0 t = record { there = there; index = h2; inside = omega (arith, plain-cells ss g m t there f2) } in
       let r = same-way ss g k m i j cell 0 s t v w (omega (arith, at)) in
@@ -215,8 +215,8 @@ module _ (ts : List Fields) (all : (t : ℕ) (fs : List Slot) → fields_at ts t
       let there : slice_get ss m ≡ Some t = ap (λ (xs : List Slot). slice_get xs m) same ∙ e2 in
       let inner = struct-cells ss g k u s fs e f found in
       let inner2 = struct-cells ss g m u2 t fs2 there f2 found2 in
-      let b : cell < cells fs = leads-within rest inner.1 in
-      let b2 : cell2 < cells fs2 = leads-within rest2 inner2.1 in
+      let b : cell < cells_in_all fs = leads-within rest inner.1 in
+      let b2 : cell2 < cells_in_all fs2 = leads-within rest2 inner2.1 in
       let v : Way ss k i cell s = record { there = e; index = h; inside = omega (arith, b, inner.0) } in
       let w : Way ss m j cell2 t = record { there = there; index = h2; inside = omega (arith, b2, inner2.0) } in
       let r = same-way ss g k m i j cell cell2 s t v w at in
@@ -281,8 +281,8 @@ abbrev Some_path : List Fields → List Slot → ℕ → Type 0
 Some_path us ss c = (p : List (ℕ × ℕ)) × Leads us ss c p
 
 -- from the paths in typedefs before
-path-by : (us : List Fields) (h : TypedefsTile [] us) → ((xs : List Fields) → length xs < length us → TypedefsTile [] xs → (fs : List Slot) → Tile xs 0 fs → cells fs ≤ MOST_CELLS → (r : ℕ) → r < cells fs → Some_path xs fs r)
-    → (ss : List Slot) → Tile us 0 ss → cells ss ≤ MOST_CELLS → (c : ℕ) → c < cells ss → Some_path us ss c
+path-by : (us : List Fields) (h : TypedefsTile [] us) → ((xs : List Fields) → length xs < length us → TypedefsTile [] xs → (fs : List Slot) → Tile xs 0 fs → cells_in_all fs ≤ MOST_CELLS → (r : ℕ) → r < cells_in_all fs → Some_path xs fs r)
+    → (ss : List Slot) → Tile us 0 ss → cells_in_all ss ≤ MOST_CELLS → (c : ℕ) → c < cells_in_all ss → Some_path us ss c
 path-by us h before ss tile few c below = go (struct-or-not s.form)
   where
     l : Located ss c
@@ -330,13 +330,13 @@ path-by us h before ss tile few c below = go (struct-or-not s.form)
         let there : Leads us w.0 r p.0 = subst (λ (ys : List Fields). Leads ys w.0 r p.0) (sym e.split) (leads-still e.xs e.rest {p = p.0} p.1) in
         ((l.k, i) ∷ p.0, subst (λ (d : ℕ). Leads us ss d ((l.k, i) ∷ p.0)) whole (tiled.goes_on {p = p.0} l.there index f.1 w.1 there))
 
-some-path : (n : ℕ) (us : List Fields) → length us < n → TypedefsTile [] us → (ss : List Slot) → Tile us 0 ss → cells ss ≤ MOST_CELLS → (c : ℕ) → c < cells ss → Some_path us ss c
+some-path : (n : ℕ) (us : List Fields) → length us < n → TypedefsTile [] us → (ss : List Slot) → Tile us 0 ss → cells_in_all ss ≤ MOST_CELLS → (c : ℕ) → c < cells_in_all ss → Some_path us ss c
 some-path zero us m h ss tile few c below = absurd (omega (arith, m))
 some-path (suc n) us m h ss tile few c below = path-by us h (λ xs q g fs. some-path n xs (omega (arith, m, q)) g fs) ss tile few c below
 
 -- ---- the owners of a model
 
-has-paths : (us : List Fields) → TypedefsTile [] us → (ss : List Slot) → Tile us 0 ss → cells ss ≤ MOST_CELLS → HasPaths us ss
+has-paths : (us : List Fields) → TypedefsTile [] us → (ss : List Slot) → Tile us 0 ss → cells_in_all ss ≤ MOST_CELLS → HasPaths us ss
 has-paths us h ss tile few =
     let good : Good us (all-tile us h) ss = record { tile = tile; few = few } in
     record {

@@ -5,7 +5,7 @@ use Rattle.profile.specs.declared.TheConstants.{MOST_CELLS}
 use Rattle.pml_tree.specs.declared.tree.Unit.{Unit as Part}
 use Rattle.pml_tree.specs.declared.tree.Unit.TheVariants as part
 use Rattle.pml_tree.specs.declared.tree.Tree.{Tree}
-use Rattle.promela_model.specs.Marks.{one, of_variables, of_unit, of_units, of_tree}
+use Rattle.promela_model.specs.Marks.{one_mark, of_variables, of_unit, of_units, of_tree}
 use Rattle.check_uses.specs.Parts.{proctypes_past}
 use Rattle.promela_model.specs.declared.mark.Mark.{Mark}
 use Rattle.promela_model.specs.declared.mark.Declared.TheVariants as declared_as
@@ -20,7 +20,7 @@ use Rattle.pml_program.specs.declared.program.Proctype.{Proctype}
 use Rattle.pml_program.specs.declared.program.Program.{Program}
 use Rattle.check_resolve.specs.Declarations.{Known, known, with_variables}
 use Rattle.check_resolve.specs.Model.{Made, made, no_program, with_unit, with_units, numbered_model}
-use Rattle.promela_model.specs.Stands.{Globals, cells, nothing_of}
+use Rattle.promela_model.specs.Stands.{Globals, cells_in_all, nothing_of}
 use Rattle.check_meaning.proofs.Growing.{Below, variables-below, held-below}
 use Rattle.check_meaning.proofs.Reading.{ReadsAll}
 use Rattle.check_meaning.proofs.Quiet.{env-append, quiet-begins}
@@ -31,10 +31,10 @@ use Rattle.check_meaning.proofs.Model.{start-whole}
 
 -- the globals and each proctype have few cells, and no channel of the model has room for more numbers than it may hold
 pub record IsLimited (p : Program) : Type 0 where
-  pub globals : cells p.globals ≤ MOST_CELLS
+  pub globals : cells_in_all p.globals ≤ MOST_CELLS
   pub rooms : Rooms p.globals
   pub fields : AllByRecursion (λ (f : Fields). Rooms f.fields) p.typedefs
-  pub processes : AllByRecursion (λ (q : Proctype). (cells q.variables ≤ MOST_CELLS) × Rooms q.variables) p.proctypes
+  pub processes : AllByRecursion (λ (q : Proctype). (cells_in_all q.variables ≤ MOST_CELLS) × Rooms q.variables) p.proctypes
 
 all-more : {A : Type 0} (P : A → Type 0) (xs : List A) (x : A) → AllByRecursion P xs → P x → AllByRecursion P (xs ++ x ∷ [])
 all-more P [] x h g = (g, tt)
@@ -59,7 +59,7 @@ module _ (text : List Part) (all : List Entry) (whole : ReadsAll text all) where
   unit-limited (part.Variables vs) us o gs m p h l f =
       let old : Kept role.Variable 0 (known m.names m.program.globals) = record {
         count = h.base.count ∙ ap length (sym h.globals);
-        held = h.base.held ∙ ap cells (sym h.globals);
+        held = h.base.held ∙ ap cells_in_all (sym h.globals);
         cells = l.globals;
         rooms = l.rooms;
       } in
@@ -70,9 +70,9 @@ module _ (text : List Part) (all : List Entry) (whole : ReadsAll text all) where
   unit-limited (part.Typedef t vs) us o gs m p h l f =
       let w : What = what.Declares t (declared_as.Typedef o) in
       let xs : List Mark = of_variables role.Field o vs 0 in
-      let g = variables-lead all role.Field o vs (known m.names []) (nothing-kept role.Field o m.names h.below) (few-first m.names xs (one w 0) f) in
+      let g = variables-lead all role.Field o vs (known m.names []) (nothing-kept role.Field o m.names h.below) (few-first m.names xs (one_mark w 0) f) in
       record {
-        names = ap (λ (es : List Entry). after es 0 w) g.names ∙ sym (env-append m.names xs (one w 0));
+        names = ap (λ (es : List Entry). after es 0 w) g.names ∙ sym (env-append m.names xs (one_mark w 0));
         count = refl;
         limited = record { globals = l.globals; rooms = l.rooms; fields = all-more (λ (f : Fields). Rooms f.fields) m.program.typedefs _ l.fields g.kept.rooms; processes = l.processes };
       }
@@ -88,7 +88,7 @@ module _ (text : List Part) (all : List Entry) (whole : ReadsAll text all) where
           globals = l.globals;
           rooms = l.rooms;
           fields = l.fields;
-          processes = all-more (λ (q : Proctype). (cells q.variables ≤ MOST_CELLS) × Rooms q.variables) m.program.proctypes _ l.processes (g.kept.cells, g.kept.rooms);
+          processes = all-more (λ (q : Proctype). (cells_in_all q.variables ≤ MOST_CELLS) × Rooms q.variables) m.program.proctypes _ l.processes (g.kept.cells, g.kept.rooms);
         };
       }
 

@@ -13,9 +13,9 @@ use Rattle.pml_tree.specs.declared.tree.Basic.{Basic as TreeBasic, Basic-F, map-
 use Rattle.pml_tree.specs.declared.tree.Item.{Item, Item-F, map-Item, roll-Item, fold-roll-Item}
 use Rattle.pml_tree.specs.declared.tree.Seq.{Seq as TreeSeq, Seq-F, map-Seq, roll-Seq, fold-roll-Seq, ind-Seq}
 use Rattle.promela_model.specs.Marks as marked
-use Rattle.promela_model.specs.Marks.{Marked, all_marks, of_seq, of_expr, of_sort, of_size, of_initial, of_variable, of_variables, one}
+use Rattle.promela_model.specs.Marks.{Marked, all_marks, of_seq, of_expr, of_sort, of_size, of_initial, of_variable, of_variables, one_mark}
 use Rattle.check_uses.specs.Parts.{of_basic, of_item, size_of}
-use Rattle.promela_model.specs.Stands.{cells}
+use Rattle.promela_model.specs.Stands.{cells_in_all}
 use Rattle.promela_model.specs.declared.mark.Mark.{Mark}
 use Rattle.promela_model.specs.declared.mark.Role.{Role}
 use Rattle.promela_model.specs.declared.mark.Role.TheVariants as role
@@ -78,13 +78,13 @@ Rooms = AllByRecursion (λ (s : Slot). room s.initial ≤ MOST_CELLS)
 
 -- the cells of a typedef's fields are not asked
 abbrev pub Cells : Role → List Slot → Type 0
-Cells role.Variable ss = cells ss ≤ MOST_CELLS
+Cells role.Variable ss = cells_in_all ss ≤ MOST_CELLS
 Cells role.Field ss = Unit {0}
 
 -- the names and the variables of the owner o have the same cells, and they are few
 pub record Kept (x : Role) (o : ℕ) (k : Known) : Type 0 where
   pub count : variables k.names o ≡ length k.slots
-  pub held : held k.names o ≡ cells k.slots
+  pub held : held k.names o ≡ cells_in_all k.slots
   pub cells : Cells x k.slots
   pub rooms : Rooms k.slots
 
@@ -115,9 +115,9 @@ initial-few : (x : Role) (s : Sort) (t : Option TreeInitial) (u : ℕ) (es : Lis
 initial-few x s None u es sc h = omega arith
 initial-few x s (Some (begin.Value e)) u es sc h = omega arith
 initial-few role.Variable s (Some (begin.Channel e ts)) u es sc h =
-    subst (λ (n : ℕ). natural (constant e) * n ≤ MOST_CELLS) (sym (length-map ts plain)) (few-rest es (of_expr e u) (one _ u) h).0
+    subst (λ (n : ℕ). natural (constant e) * n ≤ MOST_CELLS) (sym (length-map ts plain)) (few-rest es (of_expr e u) (one_mark _ u) h).0
 initial-few role.Field s (Some (begin.Channel e ts)) u es sc h =
-    subst (λ (n : ℕ). natural (constant e) * n ≤ MOST_CELLS) (sym (length-map ts plain)) (few-rest es (of_expr e u) (one _ u) h).0
+    subst (λ (n : ℕ). natural (constant e) * n ≤ MOST_CELLS) (sym (length-map ts plain)) (few-rest es (of_expr e u) (one_mark _ u) h).0
 
 module _ (all : List Entry) (x : Role) (o : ℕ) where
   names-one : (v : Variable) (k : Known) → (with_variable all x o v k).names ≡ after k.names o (declares x v)
@@ -143,20 +143,20 @@ module _ (all : List Entry) (x : Role) (o : ℕ) where
 
     begins-few : (sc : Scope) → room (initial v.initial sc) ≤ MOST_CELLS
     begins-few sc =
-        let f1 = few-rest es s (z ++ (b ++ one (declares x v) o)) f in
-        let f2 = few-rest (env_from es s) z (b ++ one (declares x v) o) f1 in
-        initial-few x v.sort v.initial u (env_from (env_from es s) z) sc (few-first (env_from (env_from es s) z) b (one (declares x v) o) f2)
+        let f1 = few-rest es s (z ++ (b ++ one_mark (declares x v) o)) f in
+        let f2 = few-rest (env_from es s) z (b ++ one_mark (declares x v) o) f1 in
+        initial-few x v.sort v.initial u (env_from (env_from es s) z) sc (few-first (env_from (env_from es s) z) b (one_mark (declares x v) o) f2)
 
     variable-few : Few es o (declares x v)
     variable-few =
-        let f1 = few-rest es s (z ++ (b ++ one (declares x v) o)) f in
-        let f2 = few-rest (env_from es s) z (b ++ one (declares x v) o) f1 in
-        let f3 = few-rest (env_from (env_from es s) z) b (one (declares x v) o) f2 in
+        let f1 = few-rest es s (z ++ (b ++ one_mark (declares x v) o)) f in
+        let f2 = few-rest (env_from es s) z (b ++ one_mark (declares x v) o) f1 in
+        let f3 = few-rest (env_from (env_from es s) z) b (one_mark (declares x v) o) f2 in
         subst (λ (fs : List Entry). Few fs o (declares x v))
         ((quiet-initial x v.sort v.initial u).still (env_from (env_from es s) z) ∙ (quiet-sized v.size u).still (env_from es s) ∙ (quiet-sort v.sort u).still es) f3.0
 
 cells-few : (all : List Entry) (x : Role) (o : ℕ) (v : Variable) (k : Known) (none : found k.names o v.name.text ≡ None) (count : variables k.names o ≡ length k.slots)
-    → held k.names o ≡ cells k.slots → Few k.names o (declares x v) → Cells x (k.slots ++ new all x o v k.names k.slots none count ∷ [])
+    → held k.names o ≡ cells_in_all k.slots → Few k.names o (declares x v) → Cells x (k.slots ++ new all x o v k.names k.slots none count ∷ [])
 cells-few all role.Variable o v k none count h f = omega (arith, h, f, cells-more k.slots (new all role.Variable o v k.names k.slots none count))
 cells-few all role.Field o v k none count h f = tt
 

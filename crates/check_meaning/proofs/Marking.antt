@@ -9,7 +9,7 @@ use Rattle.pml_tree.specs.declared.tree.Seq.{Seq, roll-Seq, fold-roll-Seq, ind-S
 use Rattle.pml_tree.specs.declared.tree.Unit.{Unit as Part}
 use Rattle.pml_tree.specs.declared.tree.Unit.TheVariants as part
 use Rattle.pml_tree.specs.declared.tree.Tree.{Tree}
-use Rattle.promela_model.specs.Marks.{Marked, one, all_marks, made_by, of_variable, of_variables, basic_layer, item_layer, seq_layer, of_seq, of_starts, of_unit, of_units, of_tree, is_proctype}
+use Rattle.promela_model.specs.Marks.{Marked, one_mark, all_marks, made_by, of_variable, of_variables, basic_layer, item_layer, seq_layer, of_seq, of_starts, of_unit, of_units, of_tree, is_proctype}
 use Rattle.check_uses.specs.Parts.{of_basic, of_item, size_of, proctypes_past}
 use Rattle.promela_model.specs.declared.mark.Mark.{Mark}
 use Rattle.promela_model.specs.declared.mark.Role.{Role}
@@ -117,7 +117,7 @@ unit-marked o k p (part.Constants ns) es n r =
     constants-read (reverse ns) es n r ∙ ap (λ (b : Bool). or_process (found es 0 n) (cond b None r)) (name-reversed ns n)
 unit-marked o k p (part.Typedef t vs) es n r =
     let fs : List Entry = env_from es (of_variables role.Field o vs 0) in
-    ap (λ (gs : List Entry). or_process (found gs 0 n) r) (env-append es (of_variables role.Field o vs 0) (one (what.Declares t (declared_as.Typedef o)) 0))
+    ap (λ (gs : List Entry). or_process (found gs 0 n) r) (env-append es (of_variables role.Field o vs 0) (one_mark (what.Declares t (declared_as.Typedef o)) 0))
     ∙ after-read fs t (declared_as.Typedef o) n r
     ∙ ap (λ (x : Option Thing). or_process x (cond (bytes_eq n t.text) None r)) ((local-variables role.Field o p vs 0).still es n)
 unit-marked o k p (part.Proctype q) es n r =

@@ -14,8 +14,8 @@ use Rattle.check_names.specs.Env.{held, constants}
 use Rattle.pml_program.specs.declared.form.Form.{Form}
 use Rattle.pml_program.specs.declared.form.Form.TheVariants as kind
 use Rattle.pml_program.specs.declared.program.Slot.{Slot}
-use Rattle.promela_model.specs.Stands.{Structure, Globals, variable_named, typedef_named, constant_named, has_name, is_declared, cells}
-use Rattle.promela_model.specs.Names.{counted}
+use Rattle.promela_model.specs.Stands.{Structure, Globals, variable_named, typedef_named, constant_named, has_name, is_declared, cells_in_all}
+use Rattle.promela_model.specs.Names.{cells_counted}
 use Rattle.check_meaning.proofs.Words.{with_variables, fields_of, fields-cons}
 use Rattle.check_meaning.proofs.Things.{variable_of, as_variable, as_thing, as_typedef, in_variable, in_constant, in_typedef, has_number, IsKnown, AreKnown}
 use Rattle.check_meaning.proofs.Growing.{or, if_so, found-own, found-other, same-name, constants-more, variables-own, held-own, variable-more, constant-more, typedef-more, name-more, cells-more, known-more, kind-more}
@@ -259,14 +259,14 @@ module _ (gs : Globals) (k : ℕ) (es : List Entry) where
   positive-now x same p h u false false e f g = cc
 
   -- a typedef with the number k
-  pub base-typedef : (x : Structure) → x.number ≡ k → 0 < k → found es 0 x.name.text ≡ None → AreKnown gs.typedefs x.fields → held es k ≡ cells x.fields
+  pub base-typedef : (x : Structure) → x.number ≡ k → 0 < k → found es 0 x.name.text ≡ None → AreKnown gs.typedefs x.fields → held es k ≡ cells_in_all x.fields
       → ((n : List ℕ) → found es k n ≡ as_thing (variable_named x.fields n)) → Base gs k es
       → Base (with_typedef_name x) (k + 1) (es ++ entry 0 x.name.text (thing.Typedef k (min (held es k) most_cells)) ∷ [])
   base-typedef x same p none known has own h =
       let w : List ℕ = x.name.text in
       let t : Thing = thing.Typedef k (min (held es k) most_cells) in
       let e : Entry = entry 0 w t in
-      let pair : as_typedef (Some x) ≡ Some (k, min (held es k) most_cells) = ap (λ (m : ℕ). Some (m, counted (cells x.fields))) same ∙ ap (λ (m : ℕ). Some (k, min m most_cells)) (sym has) in
+      let pair : as_typedef (Some x) ≡ Some (k, min (held es k) most_cells) = ap (λ (m : ℕ). Some (m, cells_counted (cells_in_all x.fields))) same ∙ ap (λ (m : ℕ). Some (k, min m most_cells)) (sym has) in
       record {
         agrees = record {
           variables = stays gs k es w t none h in_variable refl refl (λ m. as_variable (variable_named gs.variables m)) h.agrees.variables;

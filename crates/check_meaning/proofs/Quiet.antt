@@ -15,7 +15,7 @@ use Rattle.pml_tree.specs.declared.tree.Action.{Action}
 use Rattle.pml_tree.specs.declared.tree.Action.TheVariants as action
 use Rattle.pml_tree.specs.declared.tree.Starts.{Starts}
 use Rattle.pml_tree.specs.declared.tree.Starts.TheVariants as starts
-use Rattle.promela_model.specs.Marks.{Marked, Referred, Stepped, one, all_marks, expr_layer, argument_layer, reference_layer, step_layer, of_expr, of_argument, of_reference, of_sort, of_size, preset_layer, of_initial, of_variable, of_run, of_action, of_starts}
+use Rattle.promela_model.specs.Marks.{Marked, Referred, MarkedStep, one_mark, all_marks, expr_layer, argument_layer, reference_layer, step_layer, of_expr, of_argument, of_reference, of_sort, of_size, preset_layer, of_initial, of_variable, of_run, of_action, of_starts}
 use Rattle.check_uses.specs.Parts.{of_step, steps_marks, of_arguments, of_references, of_labels, of_exprs}
 use Rattle.promela_model.specs.declared.mark.Mark.{Mark}
 use Rattle.promela_model.specs.declared.mark.Use.{Use}
@@ -47,67 +47,67 @@ nothing = record { still = λ es. refl }
 
 -- a mark that declares nothing
 module _ (o : ℕ) where
-  quiet-uses : (u : Use) (ss : List Shape) → IsQuiet (one (what.Uses u ss) o)
+  quiet-uses : (u : Use) (ss : List Shape) → IsQuiet (one_mark (what.Uses u ss) o)
   unfolding after
   quiet-uses u ss = record { still = λ es. refl }
 
-  quiet-typedef : (t : Word) → IsQuiet (one (what.Typedef t) o)
+  quiet-typedef : (t : Word) → IsQuiet (one_mark (what.Typedef t) o)
   unfolding after
   quiet-typedef t = record { still = λ es. refl }
 
-  quiet-runs : (t : Word) (k : ℕ) → IsQuiet (one (what.Runs t k) o)
+  quiet-runs : (t : Word) (k : ℕ) → IsQuiet (one_mark (what.Runs t k) o)
   unfolding after
   quiet-runs t k = record { still = λ es. refl }
 
-  quiet-prints : (t : Word) (k : ℕ) → IsQuiet (one (what.Prints t k) o)
+  quiet-prints : (t : Word) (k : ℕ) → IsQuiet (one_mark (what.Prints t k) o)
   unfolding after
   quiet-prints t k = record { still = λ es. refl }
 
-  quiet-number : (t : Word) → IsQuiet (one (what.Number t) o)
+  quiet-number : (t : Word) → IsQuiet (one_mark (what.Number t) o)
   unfolding after
   quiet-number t = record { still = λ es. refl }
 
-  quiet-width : (t : Word) → IsQuiet (one (what.Width t) o)
+  quiet-width : (t : Word) → IsQuiet (one_mark (what.Width t) o)
   unfolding after
   quiet-width t = record { still = λ es. refl }
 
-  quiet-size : (c : Constant) → IsQuiet (one (what.Size c) o)
+  quiet-size : (c : Constant) → IsQuiet (one_mark (what.Size c) o)
   unfolding after
   quiet-size c = record { still = λ es. refl }
 
-  quiet-starts : (c : Constant) → IsQuiet (one (what.Starts c) o)
+  quiet-starts : (c : Constant) → IsQuiet (one_mark (what.Starts c) o)
   unfolding after
   quiet-starts c = record { still = λ es. refl }
 
-  quiet-preset : (c : Constant) → IsQuiet (one (what.Preset c) o)
+  quiet-preset : (c : Constant) → IsQuiet (one_mark (what.Preset c) o)
   unfolding after
   quiet-preset c = record { still = λ es. refl }
 
-  quiet-channel : (h : Holder) (c : Constant) (k : ℕ) → IsQuiet (one (what.Channel h c k) o)
+  quiet-channel : (h : Holder) (c : Constant) (k : ℕ) → IsQuiet (one_mark (what.Channel h c k) o)
   unfolding after
   quiet-channel h c k = record { still = λ es. refl }
 
-  pub quiet-goto : (l : Word) → IsQuiet (one (what.Goto l) o)
+  pub quiet-goto : (l : Word) → IsQuiet (one_mark (what.Goto l) o)
   unfolding after
   quiet-goto l = record { still = λ es. refl }
 
-  pub quiet-break : IsQuiet (one what.Break o)
+  pub quiet-break : IsQuiet (one_mark what.Break o)
   unfolding after
   quiet-break = record { still = λ es. refl }
 
-  pub quiet-unless : IsQuiet (one what.Unless o)
+  pub quiet-unless : IsQuiet (one_mark what.Unless o)
   unfolding after
   quiet-unless = record { still = λ es. refl }
 
-  pub quiet-enter : (s : Structure) → IsQuiet (one (what.Enter s) o)
+  pub quiet-enter : (s : Structure) → IsQuiet (one_mark (what.Enter s) o)
   unfolding after
   quiet-enter s = record { still = λ es. refl }
 
-  pub quiet-leave : IsQuiet (one what.Leave o)
+  pub quiet-leave : IsQuiet (one_mark what.Leave o)
   unfolding after
   quiet-leave = record { still = λ es. refl }
 
-  quiet-label : (l : Word) → IsQuiet (one (what.Label l) o)
+  quiet-label : (l : Word) → IsQuiet (one_mark (what.Label l) o)
   unfolding after
   quiet-label l = record { still = λ es. refl }
 
@@ -145,7 +145,7 @@ quiet-steps : (xs : List S) (o : ℕ) → IsQuiet (steps_marks (map of_step (map
 quiet-steps [] o = nothing
 quiet-steps (x ∷ xs) o = both (x.1 o) (quiet-steps xs o)
 
-expr-step : (y : Expr-F A E R S) (o : ℕ) → IsQuiet (expr_layer (map-Expr Argument Expr Reference Step Marked Marked Referred Stepped of_argument of_expr of_reference of_step (map-Expr A E R S Argument Expr Reference Step (λ e. e.0) (λ e. e.0) (λ e. e.0) (λ e. e.0) y)) o)
+expr-step : (y : Expr-F A E R S) (o : ℕ) → IsQuiet (expr_layer (map-Expr Argument Expr Reference Step Marked Marked Referred MarkedStep of_argument of_expr of_reference of_step (map-Expr A E R S Argument Expr Reference Step (λ e. e.0) (λ e. e.0) (λ e. e.0) (λ e. e.0) y)) o)
 expr-step (Expr-F.Number n) o = quiet-number o n
 expr-step (Expr-F.Truth b) o = nothing
 expr-step Expr-F.Timeout o = nothing
@@ -156,30 +156,30 @@ expr-step (Expr-F.Unary op a) o = a.1 o
 expr-step (Expr-F.Binary op a b) o = both (a.1 o) (b.1 o)
 expr-step (Expr-F.Choice a b c) o = both (a.1 o) (both (b.1 o) (c.1 o))
 
-argument-step : (y : Argument-F A E R S) (o : ℕ) → IsQuiet (argument_layer (map-Argument Argument Expr Reference Step Marked Marked Referred Stepped of_argument of_expr of_reference of_step (map-Argument A E R S Argument Expr Reference Step (λ e. e.0) (λ e. e.0) (λ e. e.0) (λ e. e.0) y)) o)
+argument-step : (y : Argument-F A E R S) (o : ℕ) → IsQuiet (argument_layer (map-Argument Argument Expr Reference Step Marked Marked Referred MarkedStep of_argument of_expr of_reference of_step (map-Argument A E R S Argument Expr Reference Step (λ e. e.0) (λ e. e.0) (λ e. e.0) (λ e. e.0) y)) o)
 argument-step (Argument-F.Exactly s n) o = quiet-number o n
 argument-step (Argument-F.Fixed b) o = nothing
 argument-step (Argument-F.Eval a) o = a.1 o
 argument-step (Argument-F.Into r) o = r.1 use_of.Receive o
 
-index-step : (i : Option E) → (n : Word) (o : ℕ) → IsQuiet ((step_layer (map-Step Argument Expr Reference Step Marked Marked Referred Stepped of_argument of_expr of_reference of_step (map-Step A E R S Argument Expr Reference Step (λ e. e.0) (λ e. e.0) (λ e. e.0) (λ e. e.0) (record { name = n; index = i })))).marks o)
+index-step : (i : Option E) → (n : Word) (o : ℕ) → IsQuiet ((step_layer (map-Step Argument Expr Reference Step Marked Marked Referred MarkedStep of_argument of_expr of_reference of_step (map-Step A E R S Argument Expr Reference Step (λ e. e.0) (λ e. e.0) (λ e. e.0) (λ e. e.0) (record { name = n; index = i })))).marks o)
 index-step None n o = nothing
 index-step (Some e) n o = e.1 o
 
 expr-proof : (x : Expr-F Argument Expr Reference Step) (y : Expr-F A E R S) → map-Expr A E R S Argument Expr Reference Step (λ e. e.0) (λ e. e.0) (λ e. e.0) (λ e. e.0) y ≡ x → QE (roll-Expr x)
-expr-proof x y is = subst (λ z. QE (roll-Expr z)) is (subst (λ (f : Marked). (o : ℕ) → IsQuiet (f o)) (sym (fold-roll-Expr Marked Marked Referred Stepped argument_layer expr_layer reference_layer step_layer _)) (expr-step y))
+expr-proof x y is = subst (λ z. QE (roll-Expr z)) is (subst (λ (f : Marked). (o : ℕ) → IsQuiet (f o)) (sym (fold-roll-Expr Marked Marked Referred MarkedStep argument_layer expr_layer reference_layer step_layer _)) (expr-step y))
 
 argument-proof : (x : Argument-F Argument Expr Reference Step) (y : Argument-F A E R S) → map-Argument A E R S Argument Expr Reference Step (λ e. e.0) (λ e. e.0) (λ e. e.0) (λ e. e.0) y ≡ x → QA (roll-Argument x)
-argument-proof x y is = subst (λ z. QA (roll-Argument z)) is (subst (λ (f : Marked). (o : ℕ) → IsQuiet (f o)) (sym (fold-roll-Argument Marked Marked Referred Stepped argument_layer expr_layer reference_layer step_layer _)) (argument-step y))
+argument-proof x y is = subst (λ z. QA (roll-Argument z)) is (subst (λ (f : Marked). (o : ℕ) → IsQuiet (f o)) (sym (fold-roll-Argument Marked Marked Referred MarkedStep argument_layer expr_layer reference_layer step_layer _)) (argument-step y))
 
 reference-proof : (x : Reference-F Argument Expr Reference Step) (y : Reference-F A E R S) → map-Reference A E R S Argument Expr Reference Step (λ e. e.0) (λ e. e.0) (λ e. e.0) (λ e. e.0) y ≡ x → QR (roll-Reference x)
 reference-proof x y is =
     subst (λ z. QR (roll-Reference z)) is
-    (subst (λ (f : Referred). (u : Use) (o : ℕ) → IsQuiet (f u o)) (sym (fold-roll-Reference Marked Marked Referred Stepped argument_layer expr_layer reference_layer step_layer _))
+    (subst (λ (f : Referred). (u : Use) (o : ℕ) → IsQuiet (f u o)) (sym (fold-roll-Reference Marked Marked Referred MarkedStep argument_layer expr_layer reference_layer step_layer _))
     (λ u o. both (y.first.1 o) (both (quiet-steps y.fields o) (quiet-uses o u _))))
 
 step-proof : (x : Step-F Argument Expr Reference Step) (y : Step-F A E R S) → map-Step A E R S Argument Expr Reference Step (λ e. e.0) (λ e. e.0) (λ e. e.0) (λ e. e.0) y ≡ x → QS (roll-Step x)
-step-proof x y is = subst (λ z. QS (roll-Step z)) is (subst (λ (s : Stepped). (o : ℕ) → IsQuiet (s.marks o)) (sym (fold-roll-Step Marked Marked Referred Stepped argument_layer expr_layer reference_layer step_layer _)) (index-step y.index y.name))
+step-proof x y is = subst (λ z. QS (roll-Step z)) is (subst (λ (s : MarkedStep). (o : ℕ) → IsQuiet (s.marks o)) (sym (fold-roll-Step Marked Marked Referred MarkedStep argument_layer expr_layer reference_layer step_layer _)) (index-step y.index y.name))
 
 pub quiet-expr : (e : Expr) → QE e
 quiet-expr = ind-Expr QA QE QR QS argument-proof expr-proof reference-proof step-proof
@@ -234,7 +234,7 @@ variable-declares x p v o es =
     let s : List Mark = of_sort v.sort o in
     let z : List Mark = of_size v.size o in
     let i : List Mark = of_initial x v.sort v.initial o in
-    let e : List Mark = one (declares x v) p in
+    let e : List Mark = one_mark (declares x v) p in
     let same : env_from (env_from (env_from es s) z) i ≡ es =
     (quiet-initial x v.sort v.initial o).still (env_from (env_from es s) z) ∙ (quiet-sized v.size o).still (env_from es s) ∙ (quiet-sort v.sort o).still es in
     env-append es s (z ++ (i ++ e)) ∙ env-append (env_from es s) z (i ++ e) ∙ env-append (env_from (env_from es s) z) i e

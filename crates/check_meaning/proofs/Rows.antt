@@ -42,7 +42,7 @@ use Rattle.pml_program.specs.declared.expr.Target.{Target}
 use Rattle.check_meaning.proofs.Words.{with_constants, program_of}
 use Rattle.promela_model.specs.Stands
 use Rattle.promela_model.specs.Stands.{Place, Mtype, Pid, Count, Anything, Nothing, turn_to, target_at, StandsExpr, StandsReference, StandsArgument, Globals, constant_named, nothing_of}
-use Rattle.promela_model.specs.GrammarOfExpressions.{step_of, reference_of}
+use Rattle.promela_model.specs.GrammarOfExpressions.{named_step, reference_of}
 use Rattle.promela_model.specs.StandsModel as statement
 use Rattle.promela_model.specs.StandsModel.{StandsModel, stmt_of, steps_of, StandsAction, StandsBasic, StandsItems, StandsSeq, StandsVariables, StandsVariable, StandsRun}
 use Rattle.promela_model.specs.GrammarOfActions.{item_of, seq_of}
@@ -99,7 +99,7 @@ abbrev ls : List Slot
 ls = local_x ∷ local_y ∷ []
 
 abbrev alone : List ℕ → Reference
-alone n = reference_of (step_of (named n) None) []
+alone n = reference_of (named_step (named n) None) []
 
 abbrev at_x : Target
 at_x = target_at true 0 byte (turn_to 0 local_x None ∷ [])
@@ -121,7 +121,7 @@ global : StandsReference gs [] (alone (codes "x")) (Place (target_at false 0 byt
 global = Stands.global_variable (Stands.step Stands.no_index) refl refl refl Stands.no_field
 
 -- `r[1].f[x]`: the field f begins one cell behind e
-through_fields : StandsReference gs ls (reference_of (step_of (named (codes "r")) (Some (e.Number (digits (codes "1"))))) (step_of (named (codes "f")) (Some (e.Read (alone (codes "x")))) ∷ []))
+through_fields : StandsReference gs ls (reference_of (named_step (named (codes "r")) (Some (e.Number (digits (codes "1"))))) (named_step (named (codes "f")) (Some (e.Read (alone (codes "x")))) ∷ []))
     (Place (target_at false 1 byte (turn_to 0 global_r (Some (v.Number (pos 1))) ∷ turn_to 1 field_f (Some (v.Read at_x)) ∷ [])))
 through_fields =
     Stands.global_variable (Stands.step (Stands.index (Stands.number (digits (codes "1"))))) refl refl refl

@@ -14,7 +14,7 @@ use Rattle.pml_program.specs.declared.expr.Want.{Want}
 use Rattle.check_resolve.specs.Numbered.{Scope, Path, through, at_scope, numbered, numbered_argument, numbered_reference, numbered_step}
 use Rattle.promela_model.specs.Stands as stands
 use Rattle.promela_model.specs.Stands.{Meaning, special, turn_to, StandsIndex, StandsStep, StandsFields, StandsReference, StandsExpr, StandsArgument, StandsArguments, Globals, variable_named, constant_named, fields_in}
-use Rattle.promela_model.specs.GrammarOfExpressions.{step_of, reference_of}
+use Rattle.promela_model.specs.GrammarOfExpressions.{named_step, reference_of}
 use Rattle.check_meaning.proofs.Things.{IsKnown}
 use Rattle.check_meaning.proofs.Agreeing.{Sees, meaning_of, known-at, field-known, through-field, through-lost, reached-special, reached-local, reached-global, reached-mtype, reached-nothing}
 use Rattle.check_meaning.proofs.Layers.{indexed, number-is, truth-value-is, timeout-is, reading-is, ask-is, poll-is, unary-is, binary-is, choice-is, exactly-is, fixed-is, equal-is, into-is, reference-is, step-is}
@@ -134,10 +134,10 @@ module _ (gs : Globals) (ls : List Slot) (sc : Scope) (sees : Sees gs ls sc) whe
   bare_index None = None
   bare_index (Some a) = Some a.0
 
-  index-stands : (n : Word) (i : Option TreeExpr) → StandsIndex gs ls i (indexed sc i) → PS (step_of n i)
+  index-stands : (n : Word) (i : Option TreeExpr) → StandsIndex gs ls i (indexed sc i) → PS (named_step n i)
   index-stands n i h =
-      subst (λ (m : List ℕ). StandsStep gs ls (step_of n i) m ((numbered_step (step_of n i)).index sc)) (sym (step-is sc n i).0)
-      (subst (λ (x : Option Expr). StandsStep gs ls (step_of n i) n.text x) (sym (step-is sc n i).1) (stands.step h))
+      subst (λ (m : List ℕ). StandsStep gs ls (named_step n i) m ((numbered_step (named_step n i)).index sc)) (sym (step-is sc n i).0)
+      (subst (λ (x : Option Expr). StandsStep gs ls (named_step n i) n.text x) (sym (step-is sc n i).1) (stands.step h))
 
   step-step : (n : Word) (i : Option E) → PS (roll-Step (map-Step A E R S Argument TreeExpr Reference Step (λ q. q.0) (λ q. q.0) (λ q. q.0) (λ q. q.0) (record { name = n; index = i })))
   step-step n None = index-stands n None stands.no_index

@@ -7,8 +7,8 @@ use Rattle.promela_model.specs.declared.thing.Variable.{Variable}
 use Rattle.pml_program.specs.declared.form.Form.{Form}
 use Rattle.pml_program.specs.declared.form.Form.TheVariants as kind
 use Rattle.pml_program.specs.declared.program.Slot.{Slot}
-use Rattle.promela_model.specs.Stands.{Structure, cells}
-use Rattle.promela_model.specs.Names.{counted}
+use Rattle.promela_model.specs.Stands.{Structure, cells_in_all}
+use Rattle.promela_model.specs.Names.{cells_counted}
 
 -- ---- what a variable's slot is as a name's
 
@@ -25,7 +25,7 @@ as_thing (Some p) = Some (thing.Variable (variable_of p))
 
 abbrev pub as_typedef : Option Structure → Option (ℕ × ℕ)
 as_typedef None = None
-as_typedef (Some x) = Some (x.number, counted (cells x.fields))
+as_typedef (Some x) = Some (x.number, cells_counted (cells_in_all x.fields))
 
 abbrev pub in_variable : Option Thing → Option Variable
 in_variable (Some (thing.Variable x)) = Some x

@@ -15,8 +15,8 @@ use Rattle.pml_tree.specs.declared.tree.Seq.{Seq as TreeSeq}
 use Rattle.pml_tree.specs.declared.tree.Variable.{Variable}
 use Rattle.pml_tree.specs.declared.tree.Unit.{Unit as Part}
 use Rattle.pml_tree.specs.declared.tree.Tree.{Tree}
-use Rattle.promela_model.specs.Stands.{Structure, Globals, typedef_named, is_declared, with_constant, with_proctype, cells}
-use Rattle.promela_model.specs.Names.{constant, length_of, counted}
+use Rattle.promela_model.specs.Stands.{Structure, Globals, typedef_named, is_declared, with_constant, with_proctype, cells_in_all}
+use Rattle.promela_model.specs.Names.{constant, length_of, cells_counted}
 use Rattle.check_meaning.proofs.Words.{with_constants, structure, fields_with}
 use Rattle.promela_model.specs.declared.mark.Role.{Role}
 use Rattle.promela_model.specs.declared.mark.Constant.{Constant}
@@ -36,11 +36,11 @@ use Rattle.check_meaning.specs.Tiled.{fields_at, HasWidth, Begins, Tile, Typedef
 
 -- ---- one more
 
-tile-more : (ts : List Fields) (at : ℕ) (ss : List Slot) (s : Slot) → Tile ts at ss → Begins ts (at + cells ss) s → Tile ts at (ss ++ s ∷ [])
-tile-more ts at [] s h g = (record { offset = g.offset ∙ ap counted (omega arith); some = g.some; width = g.width }, tt)
+tile-more : (ts : List Fields) (at : ℕ) (ss : List Slot) (s : Slot) → Tile ts at ss → Begins ts (at + cells_in_all ss) s → Tile ts at (ss ++ s ∷ [])
+tile-more ts at [] s h g = (record { offset = g.offset ∙ ap cells_counted (omega arith); some = g.some; width = g.width }, tt)
 tile-more ts at (x ∷ ss) s h g =
-    let same : at + (x.length * x.stride + cells ss) ≡ (at + x.length * x.stride) + cells ss = omega arith in
-    (h.0, tile-more ts (at + x.length * x.stride) ss s h.1 (record { offset = g.offset ∙ ap counted same; some = g.some; width = g.width }))
+    let same : at + (x.length * x.stride + cells_in_all ss) ≡ (at + x.length * x.stride) + cells_in_all ss = omega arith in
+    (h.0, tile-more ts (at + x.length * x.stride) ss s h.1 (record { offset = g.offset ∙ ap cells_counted same; some = g.some; width = g.width }))
 
 first-still : (b : Bool) (x : List Slot) (r q : Option (List Slot)) (fs : List Slot) → (r ≡ Some fs → q ≡ Some fs) → cond b (Some x) r ≡ Some fs → cond b (Some x) q ≡ Some fs
 first-still true x r q fs h g = g
@@ -134,13 +134,13 @@ module _ (gs : Globals) (ts : List Fields) (covers : Covers gs.typedefs ts) wher
   sort-width (stands.hidden_sort is) = refl
   sort-width (stands.lost_sort none) = refl
 
-  variable-begins : {ls before : List Slot} {v : Variable} {s : Slot} → StandsVariable gs ls before v s → Begins ts (cells before) s
+  variable-begins : {ls before : List Slot} {v : Variable} {s : Slot} → StandsVariable gs ls before v s → Begins ts (cells_in_all before) s
   variable-begins (stands.variable {v} h g) = record { offset = refl; some = elements-some v.size; width = sort-width h }
 
   variable-tiles : {ls : List Slot} {v : Variable} (ss : List Slot) (s : Slot) → StandsVariable gs ls ss v s → Tile ts 0 ss → Tile ts 0 (ss ++ s ∷ [])
   variable-tiles ss s h g =
-      let b : Begins ts (cells ss) s = variable-begins h in
-      tile-more ts 0 ss s g (record { offset = b.offset ∙ ap counted (omega arith); some = b.some; width = b.width })
+      let b : Begins ts (cells_in_all ss) s = variable-begins h in
+      tile-more ts 0 ss s g (record { offset = b.offset ∙ ap cells_counted (omega arith); some = b.some; width = b.width })
 
   variables-tile : {use_as : Role} {ss zs : List Slot} {vs : List Variable} → StandsVariables gs use_as ss vs zs → Tile ts 0 ss → Tile ts 0 zs
   variables-tile stands.no_variable h = h

@@ -14,8 +14,8 @@ use Rattle.pml_program.specs.declared.expr.Turn.{Turn, out-Turn}
 use Rattle.pml_program.specs.declared.expr.Target.{Target, Target-F, out-Target}
 use Rattle.pml_program.specs.declared.expr.Expr.{Expr}
 use Rattle.pml_program.specs.declared.expr.Want.{Want}
-use Rattle.promela_model.specs.Names.{counted}
-use Rattle.promela_model.specs.Stands.{Meaning, Place, StandsReference, Structure, Globals, cells}
+use Rattle.promela_model.specs.Names.{cells_counted}
+use Rattle.promela_model.specs.Stands.{Meaning, Place, StandsReference, Structure, Globals, cells_in_all}
 
 -- the fields of the typedef whose owner this is
 abbrev pub fields_at : List Fields → ℕ → Option (List Slot)
@@ -24,12 +24,12 @@ fields_at (f ∷ fs) t = if nat_eq t f.owner then Some f.fields else fields_at f
 
 -- an element of a typedef's type has the cells of its fields, and each other one cell
 abbrev pub HasWidth : List Fields → Form → ℕ → Type 0
-HasWidth ts (kind.Struct t) w = (fs : List Slot) × (fields_at ts t ≡ Some fs) × (w ≡ counted (cells fs))
+HasWidth ts (kind.Struct t) w = (fs : List Slot) × (fields_at ts t ≡ Some fs) × (w ≡ cells_counted (cells_in_all fs))
 HasWidth ts _ w = w ≡ 1
 
 -- A variable that begins at this cell, one element at least behind another. Cells are counted up to one more than there may be.
 pub record Begins (ts : List Fields) (at : ℕ) (s : Slot) : Type 0 where
-  pub offset : s.offset ≡ counted at
+  pub offset : s.offset ≡ cells_counted at
   pub some : 0 < s.length
   pub width : HasWidth ts s.form s.stride
 
@@ -74,14 +74,14 @@ pub data Leads (ts : List Fields) : List Slot → ℕ → List (ℕ × ℕ) → 
 
 -- each cell of these variables has exactly one path, and no path leads out of them
 pub record HasPaths (ts : List Fields) (ss : List Slot) : Type 0 where
-  pub some : (cell : ℕ) → cell < cells ss → (p : List (ℕ × ℕ)) × Leads ts ss cell p
+  pub some : (cell : ℕ) → cell < cells_in_all ss → (p : List (ℕ × ℕ)) × Leads ts ss cell p
   pub one : (cell : ℕ) (p q : List (ℕ × ℕ)) → Leads ts ss cell p → Leads ts ss cell q → p ≡ q
-  pub within : (cell : ℕ) (p : List (ℕ × ℕ)) → Leads ts ss cell p → cell < cells ss
+  pub within : (cell : ℕ) (p : List (ℕ × ℕ)) → Leads ts ss cell p → cell < cells_in_all ss
 
 -- the variables of an owner of a model, with no more cells than there may be
 pub data IsOwner (p : Program) : List Slot → Type 0 where
-  globally : cells p.globals ≤ MOST_CELLS → IsOwner p p.globals
-  locally : (k : ℕ) {q : Proctype} → slice_get p.proctypes k ≡ Some q → cells q.variables ≤ MOST_CELLS → IsOwner p q.variables
+  globally : cells_in_all p.globals ≤ MOST_CELLS → IsOwner p p.globals
+  locally : (k : ℕ) {q : Proctype} → slice_get p.proctypes k ≡ Some q → cells_in_all q.variables ≤ MOST_CELLS → IsOwner p q.variables
 
 -- ---- references
 

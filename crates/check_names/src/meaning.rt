@@ -1,7 +1,7 @@
 //! What names stand for.
 
 ghost use Rattle.std.specs.Prelude.{◌≡◌, Some, option_map};
-ghost use Rattle.promela_model.specs.Names.{is_any, is_pid, is_count, is_special, only_process, visible, meaning, field};
+ghost use Rattle.promela_model.specs.Names.{is_any, is_pid, is_count, is_special, only_process, visible, meaning, field_of_type};
 ghost use Rattle.check_names.specs.Entry.{found};
 
 use crate::table::Table;
@@ -73,7 +73,7 @@ pub fn meaning(all: &Table, table: &Table, owner: usize, name: &[u8]) -> Option<
 
 /// What stands for a field of this type.
 pub fn field(table: &Table, form: Form, name: &[u8]) -> Option<Option<Thing>>
-    ensures { result ≡ field (found table.now) form name.now }
+    ensures { result ≡ field_of_type (found table.now) form name.now }
 {
     match form {
         Form::Struct(t) => Some(table.find(t, name)),

@@ -15,7 +15,7 @@ use Rattle.promela_model.specs.declared.thing.Variable.{Variable}
 use Rattle.promela_model.specs.declared.thing.Thing.{Thing}
 use Rattle.promela_model.specs.declared.thing.Thing.TheVariants as thing
 use Rattle.check_names.specs.Entry.{Entry, found}
-use Rattle.promela_model.specs.Names.{is_any, is_pid, is_count, field, meaning, number, negated}
+use Rattle.promela_model.specs.Names.{is_any, is_pid, is_count, field_of_type, meaning, number_from_digits, negated}
 use Rattle.pml_program.specs.declared.expr.Expr.{Expr}
 use Rattle.pml_program.specs.declared.expr.Expr.TheVariants as v
 use Rattle.pml_program.specs.declared.expr.Want.{Want}
@@ -74,7 +74,7 @@ into _ i f rest = (f, [])
 -- through the fields behind a place of this type
 abbrev pub through : Form → List Stepped → Scope → Path
 through f [] sc = (f, [])
-through f (s ∷ ss) sc = into (field (found sc.names) f s.name) (s.index sc) f (λ g. through g ss sc)
+through f (s ∷ ss) sc = into (field_of_type (found sc.names) f s.name) (s.index sc) f (λ g. through g ss sc)
 
 abbrev pub placed : Bool → Variable → Stepped → List Stepped → Scope → Reached
 placed local x s ss sc =
@@ -146,7 +146,7 @@ at_scope [] sc = []
 at_scope (a ∷ more) sc = a sc ∷ at_scope more sc
 
 abbrev pub expr_layer : Expr-F Wanted Valued Reaching Stepped → Valued
-expr_layer (Expr-F.Number n) sc = v.Number (literal (number n.text))
+expr_layer (Expr-F.Number n) sc = v.Number (literal (number_from_digits n.text))
 expr_layer (Expr-F.Truth b) sc = v.Number (truth b)
 expr_layer Expr-F.Timeout sc = v.Timeout
 expr_layer (Expr-F.Read p) sc = read (p sc)
@@ -157,7 +157,7 @@ expr_layer (Expr-F.Binary op a b) sc = v.Binary op (a sc) (b sc)
 expr_layer (Expr-F.Choice a b c) sc = v.Choice (a sc) (b sc) (c sc)
 
 abbrev pub argument_layer : Argument-F Wanted Valued Reaching Stepped → Wanted
-argument_layer (Argument-F.Exactly sign n) sc = w.Exactly (literal (signed sign (number n.text)))
+argument_layer (Argument-F.Exactly sign n) sc = w.Exactly (literal (signed sign (number_from_digits n.text)))
 argument_layer (Argument-F.Fixed b) sc = w.Exactly (truth b)
 argument_layer (Argument-F.Eval a) sc = w.Equal (a sc)
 argument_layer (Argument-F.Into p) sc = received (p sc)

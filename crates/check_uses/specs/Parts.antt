@@ -17,11 +17,11 @@ use Rattle.promela_model.specs.declared.mark.Declared.TheVariants as declared_as
 use Rattle.promela_model.specs.declared.mark.What.TheVariants as what
 use Rattle.promela_model.specs.declared.mark.Mark.{Mark}
 use Rattle.promela_model.specs.Names.{constant}
-use Rattle.promela_model.specs.Marks.{Marked, Stepped, Referred, mark, all_marks, expr_layer, argument_layer, reference_layer, step_layer, basic_layer, item_layer, seq_layer, of_expr, of_argument, of_reference, of_starts, of_variables, of_seq, is_proctype}
+use Rattle.promela_model.specs.Marks.{Marked, MarkedStep, Referred, mark, all_marks, expr_layer, argument_layer, reference_layer, step_layer, basic_layer, item_layer, seq_layer, of_expr, of_argument, of_reference, of_starts, of_variables, of_seq, is_proctype}
 
 -- a name of a reference, and the marks of its index
-abbrev pub of_step : Step → Stepped
-of_step = fold-Step Marked Marked Referred Stepped argument_layer expr_layer reference_layer step_layer
+abbrev pub of_step : Step → MarkedStep
+of_step = fold-Step Marked Marked Referred MarkedStep argument_layer expr_layer reference_layer step_layer
 
 -- the marks of a statement
 abbrev pub of_basic : Basic → Marked
@@ -40,11 +40,11 @@ abbrev pub of_arguments : List Argument → Marked
 of_arguments rs = all_marks (map of_argument rs)
 
 -- the names of a reference, each with whether it has an index
-abbrev pub shapes : List Stepped → List Shape
+abbrev pub shapes : List MarkedStep → List Shape
 shapes ss = map (λ s. s.shape) ss
 
 -- the marks of the indices, one after the other
-abbrev pub steps_marks : List Stepped → Marked
+abbrev pub steps_marks : List MarkedStep → Marked
 steps_marks ss o = flat_map (λ s. s.marks o) ss
 
 -- the size in brackets, if there is one

@@ -1,7 +1,7 @@
 //! Numbers of the text, and constant arithmetic.
 
 ghost use Rattle.std.specs.Prelude.{◌≡◌};
-ghost use Rattle.promela_model.specs.Names.{numeral, number, joined, applied, negated};
+ghost use Rattle.promela_model.specs.Names.{numeral, number_from_digits, joined_constants, applied, negated};
 
 use pml_tree::tree::Infix;
 use promela_model::mark::Constant;
@@ -23,7 +23,7 @@ pub fn read(digits: &[u8]) -> Option<u32>
 
 /// What a number gives.
 pub fn value(digits: &[u8]) -> Constant
-    ensures { result ≡ number digits.now }
+    ensures { result ≡ number_from_digits digits.now }
 {
     match read(digits) {
         Some(n) => Constant::Is(n.cast_signed()),
@@ -44,7 +44,7 @@ pub fn negative(a: Constant) -> Constant
 
 /// Two constants, with an operator between them.
 pub fn join(op: Infix, a: Constant, b: Constant) -> Constant
-    ensures { result ≡ joined op a b }
+    ensures { result ≡ joined_constants op a b }
 {
     match a {
         Constant::Open => Constant::Open,

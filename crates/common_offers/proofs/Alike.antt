@@ -15,8 +15,8 @@ use Rattle.pml_program.specs.declared.expr.Want.TheVariants as w
 use Rattle.pml_program.specs.declared.expr.Target.{Target, fold-roll-Target, out-Target, roll-out-Target}
 use Rattle.pml_program.specs.declared.expr.Turn.{Turn, Turn-F, map-Turn, fold-roll-Turn, out-Turn, roll-out-Turn}
 use Rattle.promela_process.specs.declared.sought.Sought.TheVariants.{Exactly, Into, Anything}
-use Rattle.promela_process.specs.Numbers.{truth, prefixed, infixed, decided}
-use Rattle.promela_process.specs.Expressions.{Reading, Valued, Wanted, Placed, Turned, val, want, placed, place, cells, cells_of, cell_in, index_of, inside, filled, asked_by, value_step, want_step, target_step, turn_step, ◌>>=◌}
+use Rattle.promela_process.specs.Numbers.{truth_number, prefixed, infixed, decided}
+use Rattle.promela_process.specs.Expressions.{Reading, Valued, Wanted, Placed, Turned, val, want, placed_target, place, turned_by, cells_of, cell_in, index_of, cell_inside, filled, asked_by, value_step, want_step, target_step, turn_step, ◌>>=◌}
 use Rattle.common_offers.specs.Alike.{AreAlike, IsCommon, IsCommonPlace, IsCommonTurn, AreCommonTurns, IsCommonWant, AreCommonWants}
 
 -- ---- lists
@@ -51,12 +51,12 @@ count_is r = ap (λ (f : Valued). f r) (fold-roll-Expr Valued Wanted Placed Turn
 pub count_common : IsCommon x.ProcessCount
 count_common r q a = count_is r ∙ (ap Ok a.process_count ∙ sym (count_is q))
 
-timeout_is : (r : Reading) → val x.Timeout r ≡ Ok (truth r.timeout)
+timeout_is : (r : Reading) → val x.Timeout r ≡ Ok (truth_number r.timeout)
 unfolding roll-Expr roll
 timeout_is r = ap (λ (f : Valued). f r) (fold-roll-Expr Valued Wanted Placed Turned value_step want_step target_step turn_step Expr-F.Timeout)
 
 pub timeout_common : IsCommon x.Timeout
-timeout_common r q a = timeout_is r ∙ (ap (λ b. Ok (truth b)) a.timeout ∙ sym (timeout_is q))
+timeout_common r q a = timeout_is r ∙ (ap (λ b. Ok (truth_number b)) a.timeout ∙ sym (timeout_is q))
 
 read_is : (t : Target) (r : Reading) → val (x.Read t) r ≡ (place t r >>= λ at. Ok (r.holds at))
 unfolding roll-Expr roll
@@ -104,15 +104,15 @@ binary_common op e d h k r q a =
 -- ---- a reference
 
 abbrev turned : Turn-F Expr Want Target Turn → Turned
-turned y = turn_step (map-Turn Expr Want Target Turn Valued Wanted Placed Turned val want placed cells y)
+turned y = turn_step (map-Turn Expr Want Target Turn Valued Wanted Placed Turned val want placed_target turned_by y)
 
 layer_of : (o l s : ℕ) (x : Option Expr) (r : Reading) → turned (record { offset = o; length = l; stride = s; index = x }) r ≡ (index_of (option_map val x) l r >>= λ i. Ok (o + i * s))
 layer_of o l s None r = refl
 layer_of o l s (Some e) r = refl
 
-turn_is : (t : Turn) (r : Reading) → cells t r ≡ (index_of (option_map val (out-Turn t).index) (out-Turn t).length r >>= λ i. Ok ((out-Turn t).offset + i * (out-Turn t).stride))
+turn_is : (t : Turn) (r : Reading) → turned_by t r ≡ (index_of (option_map val (out-Turn t).index) (out-Turn t).length r >>= λ i. Ok ((out-Turn t).offset + i * (out-Turn t).stride))
 turn_is t r =
-    ap (λ (u : Turn). cells u r) (sym (roll-out-Turn t))
+    ap (λ (u : Turn). turned_by u r) (sym (roll-out-Turn t))
     ∙ (ap (λ (f : Turned). f r) (fold-roll-Turn Valued Wanted Placed Turned value_step want_step target_step turn_step (out-Turn t))
     ∙ layer_of (out-Turn t).offset (out-Turn t).length (out-Turn t).stride (out-Turn t).index r)
 
@@ -120,17 +120,17 @@ turn_is t r =
 pub turn_common : (t : Turn) → (out-Turn t).index ≡ None → IsCommonTurn t
 turn_common t none r q a = is r ∙ sym (is q)
   where
-    is : (z : Reading) → cells t z ≡ Ok ((out-Turn t).offset + 0 * (out-Turn t).stride)
+    is : (z : Reading) → turned_by t z ≡ Ok ((out-Turn t).offset + 0 * (out-Turn t).stride)
     is z = turn_is t z ∙ ap (λ (o : Option Expr). index_of (option_map val o) (out-Turn t).length z >>= λ i. Ok ((out-Turn t).offset + i * (out-Turn t).stride)) none
 
-turns_same : (ts : List Turn) → AreCommonTurns ts → (r q : Reading) → AreAlike r q → (whole cell : ℕ) → cells_of (map cells ts) whole cell r ≡ cells_of (map cells ts) whole cell q
+turns_same : (ts : List Turn) → AreCommonTurns ts → (r q : Reading) → AreAlike r q → (whole cell : ℕ) → cells_of (map turned_by ts) whole cell r ≡ cells_of (map turned_by ts) whole cell q
 turns_same [] h r q a whole cell = refl
 turns_same (t ∷ ts) h r q a whole cell =
-    both_same (cells t r) (cells t q)
-    (λ n. inside whole (cell + n) >>= λ c. cells_of (map cells ts) whole c r) (λ n. inside whole (cell + n) >>= λ c. cells_of (map cells ts) whole c q)
-    (h.0 r q a) (λ n. then_same (inside whole (cell + n)) (λ c. cells_of (map cells ts) whole c r) (λ c. cells_of (map cells ts) whole c q) (λ c. turns_same ts h.1 r q a whole c))
+    both_same (turned_by t r) (turned_by t q)
+    (λ n. cell_inside whole (cell + n) >>= λ c. cells_of (map turned_by ts) whole c r) (λ n. cell_inside whole (cell + n) >>= λ c. cells_of (map turned_by ts) whole c q)
+    (h.0 r q a) (λ n. then_same (cell_inside whole (cell + n)) (λ c. cells_of (map turned_by ts) whole c r) (λ c. cells_of (map turned_by ts) whole c q) (λ c. turns_same ts h.1 r q a whole c))
 
-place_is : (t : Target) (r : Reading) → place t r ≡ cell_in (r.frame (out-Target t).local) (out-Target t).variable (map cells (out-Target t).turns) r
+place_is : (t : Target) (r : Reading) → place t r ≡ cell_in (r.frame (out-Target t).local) (out-Target t).variable (map turned_by (out-Target t).turns) r
 place_is t r =
     ap (λ (u : Target). place u r) (sym (roll-out-Target t))
     ∙ ap (λ (f : Placed). f.lies r) (fold-roll-Target Valued Wanted Placed Turned value_step want_step target_step turn_step (out-Target t))
@@ -139,12 +139,12 @@ place_is t r =
 pub place_common : (t : Target) → (out-Target t).local ≡ false → AreCommonTurns (out-Target t).turns → IsCommonPlace t
 place_common t global h r q a =
     let v = (out-Target t).variable in
-    let ts = map cells (out-Target t).turns in
+    let ts = map turned_by (out-Target t).turns in
     place_is t r
     ∙ (ap (λ b. cell_in (r.frame b) v ts r) global
     ∙ (ap (λ f. cell_in f v ts r) a.frame
-    ∙ (ap (λ n. inside n 0 >>= λ c. cells_of ts n c r >>= λ cell. Ok (record { frame = q.frame false; variable = v; cell = cell })) (a.cells (q.frame false) v)
-    ∙ (then_same (inside (q.cells (q.frame false) v) 0)
+    ∙ (ap (λ n. cell_inside n 0 >>= λ c. cells_of ts n c r >>= λ cell. Ok (record { frame = q.frame false; variable = v; cell = cell })) (a.cells (q.frame false) v)
+    ∙ (then_same (cell_inside (q.cells (q.frame false) v) 0)
     (λ c. cells_of ts (q.cells (q.frame false) v) c r >>= λ cell. Ok (record { frame = q.frame false; variable = v; cell = cell }))
     (λ c. cells_of ts (q.cells (q.frame false) v) c q >>= λ cell. Ok (record { frame = q.frame false; variable = v; cell = cell }))
     (λ c. ap (λ o. o >>= λ cell. Ok (record { frame = q.frame false; variable = v; cell = cell })) (turns_same (out-Target t).turns h r q a (q.cells (q.frame false) v) c))
@@ -174,12 +174,12 @@ equal_is e r = ap (λ (f : Wanted). f r) (fold-roll-Want Valued Wanted Placed Tu
 pub equal_common : (e : Expr) → IsCommon e → IsCommonWant (w.Equal e)
 equal_common e h r q a = equal_is e r ∙ (ap (λ v. v >>= λ n. Ok (Exactly n)) (h r q a) ∙ sym (equal_is e q))
 
-into_is : (t : Target) (r : Reading) → want (w.Into t) r ≡ (place t r >>= λ at. Ok (Into at (placed t).form))
+into_is : (t : Target) (r : Reading) → want (w.Into t) r ≡ (place t r >>= λ at. Ok (Into at (placed_target t).form))
 unfolding roll-Want roll
 into_is t r = ap (λ (f : Wanted). f r) (fold-roll-Want Valued Wanted Placed Turned value_step want_step target_step turn_step (Want-F.Into t))
 
 pub into_common : (t : Target) → IsCommonPlace t → IsCommonWant (w.Into t)
-into_common t h r q a = into_is t r ∙ (ap (λ p. p >>= λ at. Ok (Into at (placed t).form)) (h r q a) ∙ sym (into_is t q))
+into_common t h r q a = into_is t r ∙ (ap (λ p. p >>= λ at. Ok (Into at (placed_target t).form)) (h r q a) ∙ sym (into_is t q))
 
 -- ---- what is asked of a message, argument by argument
 

@@ -5,7 +5,7 @@ use Rattle.pml_program.specs.declared.expr.Target.{Target}
 use Rattle.pml_program.specs.declared.expr.Turn.{Turn}
 use Rattle.pml_program.specs.declared.expr.Want.{Want}
 use Rattle.promela_process.specs.declared.place.Place.{Place}
-use Rattle.promela_process.specs.Expressions.{Reading, val, place, want, cells, asked_by}
+use Rattle.promela_process.specs.Expressions.{Reading, val, place, want, turned_by, asked_by}
 
 -- Two readings are the same but for what a process has of its own.
 pub record AreAlike (r q : Reading) : Type 0 where
@@ -26,7 +26,7 @@ IsCommonPlace t = (r q : Reading) → AreAlike r q → place t r ≡ place t q
 
 -- a turn leads each as far
 abbrev pub IsCommonTurn : Turn → Type 0
-IsCommonTurn t = (r q : Reading) → AreAlike r q → cells t r ≡ cells t q
+IsCommonTurn t = (r q : Reading) → AreAlike r q → turned_by t r ≡ turned_by t q
 
 -- so does each of these
 abbrev pub AreCommonTurns : List Turn → Type 0

@@ -8,7 +8,7 @@ use Rattle.std.proofs.lemmas.Slice.Eq.{bytes_eq-Decides}
 use Rattle.pml_token.specs.declared.token.Kind.{Kind}
 use Rattle.pml_token.specs.declared.token.Kind.TheVariants.{OpenParen, Comma}
 use Rattle.pml_token.specs.Word.{same_kind, Word}
-use Rattle.promela_text.specs.Inlines.{is_name, begins, to_closing, closing, level_behind, part_turn, parts, arguments, Inline, callee}
+use Rattle.promela_text.specs.Inlines.{is_name, begins_as, to_closing, closing, level_behind, part_turn, parts, arguments, Inline, callee}
 use Rattle.inline_laws.specs.Called.{Balanced, nothing, other, bracket, ClosesBehind, open_behind, IsPart, no_token, one_token, Split, last_part, one_part, AreArguments, no_argument, some_arguments, IsFirstOf, at_first, behind_other, IsCalled}
 
 pub some_is : {A : Type 0} (x y : A) → Some x ≡ Some y → x ≡ y
@@ -230,11 +230,11 @@ is_first n known d (behind_other {e = e} {ds = ds} apart first) =
 
 pub calls_are : (known : List Inline) (w : Word) (ws : List Word) (d : Inline) → callee known w ws ≡ Some d → IsCalled known w ws d
 unfolding callee by_name
-calls_are known w ws d h = by (is_name w && begins OpenParen ws) refl
+calls_are known w ws d h = by (is_name w && begins_as OpenParen ws) refl
   where
-    by : (t : Bool) → (is_name w && begins OpenParen ws) ≡ t → IsCalled known w ws d
+    by : (t : Bool) → (is_name w && begins_as OpenParen ws) ≡ t → IsCalled known w ws d
     by true is =
-        let both = and_true (is_name w) (begins OpenParen ws) is in
+        let both = and_true (is_name w) (begins_as OpenParen ws) is in
         let found : by_name w.text known ≡ Some d = sym (ap (λ (t : Bool). if t then by_name w.text known else None) is) ∙ h in
         record { named = both.0; opened = both.1; first = first_is w.text known d found }
     by false is =
@@ -244,5 +244,5 @@ calls_are known w ws d h = by (is_name w && begins OpenParen ws) refl
 pub are_calls : (known : List Inline) (w : Word) (ws : List Word) (d : Inline) → IsCalled known w ws d → callee known w ws ≡ Some d
 unfolding callee by_name
 are_calls known w ws d c =
-    ap (λ (t : Bool). if t && begins OpenParen ws then by_name w.text known else None) c.named
+    ap (λ (t : Bool). if t && begins_as OpenParen ws then by_name w.text known else None) c.named
     ∙ ap (λ (t : Bool). if t then by_name w.text known else None) c.opened ∙ is_first w.text known d c.first

@@ -9,7 +9,7 @@ use Rattle.pml_token.specs.contracts.token.Kind.{the_type}
 use Rattle.pml_token.specs.declared.token.Kind.{Kind}
 use Rattle.pml_token.specs.declared.token.Kind.TheVariants.{Name, OpenParen, CloseParen, OpenBrace, CloseBrace, Comma}
 use Rattle.pml_token.specs.Word.{same_kind, Word}
-use Rattle.promela_text.specs.Inlines.{is_name, has_inline, begins, closing, Inline, all_differ, names, parameters, listed, with_end, with_body, definition}
+use Rattle.promela_text.specs.Inlines.{is_name, has_inline, begins_as, closing, Inline, all_differ, names, parameter_names, listed, with_end, with_body, definition}
 use Rattle.pml_inline.proofs.Words.{with_parameters}
 use Rattle.pml_inline.proofs.Lists.{closing_within}
 use Rattle.inline_laws.specs.Defined.{Names, last_name, one_name, Parameters, no_parameter, some_parameters, IsDefinition, DefinitionsAreAsWritten}
@@ -99,22 +99,22 @@ parameters_long : {ws rest : List Word} {ns : List (List ℕ)} → Parameters ws
 parameters_long (no_parameter close) = omega arith
 parameters_long {ns = ns} (some_parameters more) = let l = listed_some ns (names_some more) in let m = names_long more in omega (arith, l, m)
 
-begins_name : {ws rest : List Word} {ns : List (List ℕ)} → Names ws ns rest → begins CloseParen ws ≡ false
+begins_name : {ws rest : List Word} {ns : List (List ℕ)} → Names ws ns rest → begins_as CloseParen ws ≡ false
 begins_name (last_name {w = w} named close) = name_is_no_close w named
 begins_name (one_name {w = w} named comma more) = name_is_no_close w named
 
-parameters_are : {ws rest : List Word} {ns : List (List ℕ)} → Parameters ws ns rest → parameters ws ≡ Some ns
+parameters_are : {ws rest : List Word} {ns : List (List ℕ)} → Parameters ws ns rest → parameter_names ws ≡ Some ns
 parameters_are (no_parameter close) = rw close refl
 parameters_are (some_parameters more) = rw (begins_name more) (names_are more)
 
-parameters_there : (ws : List Word) (ns : List (List ℕ)) → parameters ws ≡ Some ns → (rest : List Word) × Parameters ws ns rest
-parameters_there ws ns h = by (begins CloseParen ws) refl h
+parameters_there : (ws : List Word) (ns : List (List ℕ)) → parameter_names ws ≡ Some ns → (rest : List Word) × Parameters ws ns rest
+parameters_there ws ns h = by (begins_as CloseParen ws) refl h
   where
-    none : (ts : List Word) → begins CloseParen ts ≡ true → [] ≡ ns → (rest : List Word) × Parameters ts ns rest
+    none : (ts : List Word) → begins_as CloseParen ts ≡ true → [] ≡ ns → (rest : List Word) × Parameters ts ns rest
     none [] close e = absurd (false≢true close)
     none (v ∷ ts) close e = (ts, subst (λ (l : List (List ℕ)). Parameters (v ∷ ts) l ts) e (no_parameter close))
 
-    by : (b : Bool) → begins CloseParen ws ≡ b → (if b then Some [] else names ws) ≡ Some ns → (rest : List Word) × Parameters ws ns rest
+    by : (b : Bool) → begins_as CloseParen ws ≡ b → (if b then Some [] else names ws) ≡ Some ns → (rest : List Word) × Parameters ws ns rest
     by true close e = none ws close (same_some [] ns e)
     by false close e = let there = names_there ws ns e in (there.0, some_parameters there.1)
 
@@ -123,12 +123,12 @@ parameters_there ws ns h = by (begins CloseParen ws) refl h
 size_is : (inner body_on : List Word) (k n : ℕ) → length inner ≡ k + length body_on → n + 2 ≤ length body_on → (2 + k + (n + 2)) + length (drop (n + 2) body_on) ≡ suc (suc (length inner))
 size_is inner body_on k n long within = let l = length-drop (n + 2) body_on in omega (arith, long, within, l)
 
-brace_within : (body_on : List Word) (n : ℕ) → begins OpenBrace body_on ≡ true → closing OpenBrace CloseBrace (drop 1 body_on) 0 ≡ Some n → n + 2 ≤ length body_on
+brace_within : (body_on : List Word) (n : ℕ) → begins_as OpenBrace body_on ≡ true → closing OpenBrace CloseBrace (drop 1 body_on) 0 ≡ Some n → n + 2 ≤ length body_on
 brace_within [] n braced closed = absurd (false≢true braced)
 brace_within (w ∷ ws) n braced closed = let l = closing_within OpenBrace CloseBrace ws 0 n closed in omega (arith, l)
 
 module _ (w v : Word) (inner : List Word) (d : Inline) (named : is_name w ≡ true) (opened : same_kind v.kind OpenParen ≡ true) where
-  from_end : (ps : List (List ℕ)) (body_on : List Word) → Parameters inner ps body_on → begins OpenBrace body_on ≡ true
+  from_end : (ps : List (List ℕ)) (body_on : List Word) → Parameters inner ps body_on → begins_as OpenBrace body_on ≡ true
       → (o : Option ℕ) → closing OpenBrace CloseBrace (drop 1 body_on) 0 ≡ o → option_and_then (with_end w.text ps body_on) o ≡ Some d → IsDefinition (w ∷ v ∷ inner) d
   from_end ps body_on there braced None closed h = cc
   from_end ps body_on there braced (Some n) closed h =
@@ -155,12 +155,12 @@ module _ (w v : Word) (inner : List Word) (d : Inline) (named : is_name w ≡ tr
         size = size_is inner body_on (listed ps) n long (brace_within body_on n braced closed);
       })
 
-  from_parameters : (o : Option (List (List ℕ))) → parameters inner ≡ o → with_parameters w.text inner o ≡ Some d → IsDefinition (w ∷ v ∷ inner) d
+  from_parameters : (o : Option (List (List ℕ))) → parameter_names inner ≡ o → with_parameters w.text inner o ≡ Some d → IsDefinition (w ∷ v ∷ inner) d
   from_parameters None is h = cc
   from_parameters (Some ps) is h =
       let there = parameters_there inner ps is in
       let body : with_body w.text ps there.0 ≡ Some d = subst (λ (ts : List Word). with_body w.text ps ts ≡ Some d) (parameters_behind there.1) h in
-      let brace = taken (begins OpenBrace there.0) (option_and_then (with_end w.text ps there.0) (closing OpenBrace CloseBrace (drop 1 there.0) 0)) d body in
+      let brace = taken (begins_as OpenBrace there.0) (option_and_then (with_end w.text ps there.0) (closing OpenBrace CloseBrace (drop 1 there.0) 0)) d body in
       from_end ps there.0 there.1 brace.0 (closing OpenBrace CloseBrace (drop 1 there.0) 0) refl brace.1
 
 written : (ws : List Word) (d : Inline) → definition ws ≡ Some d → IsDefinition ws d
@@ -168,9 +168,9 @@ unfolding definition
 written [] d h = cc
 written (w ∷ []) d h = let first = taken (is_name w && false) _ d h in absurd (false≢true (both (is_name w) false first.0).1)
 written (w ∷ v ∷ inner) d h =
-    let first = taken (is_name w && same_kind v.kind OpenParen) (with_parameters w.text inner (parameters inner)) d h in
+    let first = taken (is_name w && same_kind v.kind OpenParen) (with_parameters w.text inner (parameter_names inner)) d h in
     let parts = both (is_name w) (same_kind v.kind OpenParen) first.0 in
-    from_parameters w v inner d parts.0 parts.1 (parameters inner) refl first.1
+    from_parameters w v inner d parts.0 parts.1 (parameter_names inner) refl first.1
 
 abbrev inline : List ℕ → List (List ℕ) → List Word → ℕ → Inline
 inline name ps body size = record { name = name; parameters = ps; body = body; size = size }
@@ -183,7 +183,7 @@ inline_is d name ps body size a b c e =
     ∙ ap (λ (x : List Word). inline d.name d.parameters x size) (sym c) ∙ ap (inline d.name d.parameters d.body) (sym e)
 
 found : (w v : Word) (inner : List Word) (ps : List (List ℕ)) (body_on : List Word) (n : ℕ) → is_name w ≡ true → same_kind v.kind OpenParen ≡ true → Parameters inner ps body_on
-    → begins OpenBrace body_on ≡ true → closing OpenBrace CloseBrace (drop 1 body_on) 0 ≡ Some n → all_differ ps ≡ true → has_inline (take (n + 2) body_on) ≡ false
+    → begins_as OpenBrace body_on ≡ true → closing OpenBrace CloseBrace (drop 1 body_on) 0 ≡ Some n → all_differ ps ≡ true → has_inline (take (n + 2) body_on) ≡ false
     → definition (w ∷ v ∷ inner) ≡ Some (record { name = w.text; parameters = ps; body = take (n + 2) body_on; size = 2 + listed ps + (n + 2) })
 unfolding definition
 found w v inner ps body_on n named opened there braced closed differ plain =

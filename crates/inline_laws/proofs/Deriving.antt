@@ -4,7 +4,7 @@ use Rattle.std.specs.Prelude.{not, ◌&&◌}
 use Rattle.std.proofs.Math.Seq.{drop-nil}
 use Rattle.pml_token.specs.declared.token.Kind.TheVariants.{OpenParen, CloseParen}
 use Rattle.pml_token.specs.Word.{Word}
-use Rattle.promela_text.specs.Inlines.{closing, arguments, Inline, is_among, Given, join, itself, callee, calling, fits, reading, turn, where_right}
+use Rattle.promela_text.specs.Inlines.{closing, arguments, Inline, is_among, Given, join_given, itself, callee, calling, fits, reading, turn, where_right}
 use Rattle.pml_inline.proofs.Words.{enclosed, counted}
 use Rattle.inline_laws.specs.Derived.{Comes, nothing_left, stays, is_replaced, IsRight, inside, body_of, answered}
 
@@ -15,7 +15,7 @@ passing known call (w ∷ ws) (suc n) = passing known call ws n
 
 -- a call that is right is what comes of its body
 pub call_right : (known : List Inline) (room : ℕ) (active : List (List ℕ)) (d : Inline) (n : ℕ) (ws : List Word) → IsRight active d n ws
-    → calling known (suc room) active d (inside n ws) ≡ join (counted (body_of d n ws)) (answered known room (active ++ d.name ∷ []) (body_of d n ws))
+    → calling known (suc room) active d (inside n ws) ≡ join_given (counted (body_of d n ws)) (answered known room (active ++ d.name ∷ []) (body_of d n ws))
 unfolding calling
 call_right known room active d n ws right =
     ap (λ (b : Bool). where_right b (λ ts. answered known room (active ++ d.name ∷ []) ts) (body_of d n ws)) right
@@ -31,15 +31,15 @@ are_answered known room active ts us c nothing_left = refl
 are_answered known room active ts us c (stays {w = w} {ws = ws} {us = vs} none rest) =
     let same : 0 + c ≡ c = omega arith in
     turn_is known (calling known room active) w ws None none
-    ∙ ap (join (itself w)) (are_answered known room active ws vs c rest)
+    ∙ ap (join_given (itself w)) (are_answered known room active ws vs c rest)
     ∙ ap (λ (k : ℕ). Some (record { tokens = w ∷ vs; count = k })) same
 are_answered known room active ts us c (is_replaced {room = room'} {w = w} {ws = ws} {us = xs} {vs = vs} {d = d} {n = n} {a = a} {b = b} called closed right body rest) =
     let call = calling known (suc room') active in
     turn_is known call w ws (Some d) called
     ∙ ap (enclosed (call d) ws (reading known call ws)) closed
-    ∙ ap (λ (o : Option Given). join o (reading known call ws (n + 2)))
-    (call_right known room' active d n ws right ∙ ap (join (counted (body_of d n ws))) (are_answered known room' (active ++ d.name ∷ []) (body_of d n ws) xs a body))
-    ∙ ap (join (Some (record { tokens = xs; count = length (body_of d n ws) + a })))
+    ∙ ap (λ (o : Option Given). join_given o (reading known call ws (n + 2)))
+    (call_right known room' active d n ws right ∙ ap (join_given (counted (body_of d n ws))) (are_answered known room' (active ++ d.name ∷ []) (body_of d n ws) xs a body))
+    ∙ ap (join_given (Some (record { tokens = xs; count = length (body_of d n ws) + a })))
     (passing known call ws (n + 2) ∙ are_answered known (suc room') active (drop (n + 2) ws) vs b rest)
 
 -- ---- what is answered is derived
@@ -62,14 +62,14 @@ module _ (known : List Inline) (room : ℕ) (active : List (List ℕ))
 
   -- a token that stays, and what comes of the rest
   kept : (w : Word) (ws : List Word) (g : Given) → callee known w ws ≡ None → (o : Option Given) → ((x : Given) → o ≡ Some x → Comes known room active ws x.tokens x.count)
-      → join (itself w) o ≡ Some g → Comes known room active (w ∷ ws) g.tokens g.count
+      → join_given (itself w) o ≡ Some g → Comes known room active (w ∷ ws) g.tokens g.count
   kept w ws g none None rest h = absurd (not_some g h)
   kept w ws g none (Some x) rest h =
       let is : record { tokens = w ∷ x.tokens; count = 0 + x.count } ≡ g = some_is _ g h in
       let same : 0 + x.count ≡ x.count = omega arith in
       subst (λ (y : Given). Comes known room active (w ∷ ws) y.tokens y.count) is (subst (λ (k : ℕ). Comes known room active (w ∷ ws) (w ∷ x.tokens) k) (sym same) (stays none (rest x refl)))
 
-pub join_parts : (p q : Option Given) (g : Given) → join p q ≡ Some g → (x : Given) × (y : Given) × (p ≡ Some x) × (q ≡ Some y) × (g ≡ record { tokens = x.tokens ++ y.tokens; count = x.count + y.count })
+pub join_parts : (p q : Option Given) (g : Given) → join_given p q ≡ Some g → (x : Given) × (y : Given) × (p ≡ Some x) × (q ≡ Some y) × (g ≡ record { tokens = x.tokens ++ y.tokens; count = x.count + y.count })
 join_parts None q g h = absurd (not_some g h)
 join_parts (Some a) None g h = absurd (not_some g h)
 join_parts (Some a) (Some b) g h = (a, b, refl, refl, sym (some_is _ g h))

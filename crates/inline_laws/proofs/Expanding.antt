@@ -5,7 +5,7 @@ use Rattle.std.proofs.lemmas.Bool.Decides.{nat_tests}
 use Rattle.profile.specs.declared.TheConstants.{MOST_CALLS, MOST_REPLACED}
 use Rattle.pml_token.specs.declared.token.Kind.TheVariants.{OpenParen, CloseParen}
 use Rattle.pml_token.specs.Word.{Word}
-use Rattle.promela_text.specs.Inlines.{is_inline, has_inline, is_name, begins, closing, Inline, all_differ, definition, definition_turn, definitions, Given, join, itself, callee, calling, braces_behind, defined, expansion, limited, outermost, text_turn, texts}
+use Rattle.promela_text.specs.Inlines.{is_inline, has_inline, is_name, begins_as, closing, Inline, all_differ, definition, definition_turn, definitions, Given, join_given, itself, callee, calling, braces_behind, defined, expansion, limited, outermost_call, text_turn, texts}
 use Rattle.pml_inline.proofs.Words.{by_definitions, define, nothing, counted}
 use Rattle.pml_inline.proofs.Lists.{definitions_passing, over_call}
 use Rattle.inline_laws.specs.Derived.{inside, body_of}
@@ -27,9 +27,9 @@ passing [] known ds n (suc k) = refl
 passing (w ∷ ws) known ds n (suc k) = passing ws known ds n k
 
 -- a call begins with a parenthesis behind its name
-call_begins : (known : List Inline) (w : Word) (ws : List Word) (d : Inline) → callee known w ws ≡ Some d → begins OpenParen ws ≡ true
+call_begins : (known : List Inline) (w : Word) (ws : List Word) (d : Inline) → callee known w ws ≡ Some d → begins_as OpenParen ws ≡ true
 unfolding callee
-call_begins known w ws d h = by (is_name w) (begins OpenParen ws) _ h
+call_begins known w ws d h = by (is_name w) (begins_as OpenParen ws) _ h
   where
     by : (a b : Bool) (o : Option Inline) → (if a && b then o else None) ≡ Some d → b ≡ true
     by true true o e = refl
@@ -62,16 +62,16 @@ left_is (stays {known = known} {own = own} {n = n} {c = c} {w = w} {ws = ws} {us
     let same : 0 + c ≡ c = omega arith in
     ap (λ (b : Bool). text_turn 0 b (callee known w ws) w ws (texts ws) known own n 0) plain
     ∙ ap (λ (o : Option Inline). text_turn 0 false o w ws (texts ws) known own n 0) none
-    ∙ ap (join (itself w)) (left_is rest) ∙ given_is (w ∷ us) (0 + c) c same
+    ∙ ap (join_given (itself w)) (left_is rest) ∙ given_is (w ∷ us) (0 + c) c same
 left_is (is_called {known = known} {own = own} {n = n} {m = m} {a = a} {b = b} {w = w} {ws = ws} {us = us} {vs = vs} {d = d} plain called closed none right body rest) =
     let rest_is : Option Given = texts ws known own n (m + 2) in
     ap (λ (x : Bool). text_turn 0 x (callee known w ws) w ws (texts ws) known own n 0) plain
     ∙ ap (λ (o : Option Inline). text_turn 0 false o w ws (texts ws) known own n 0) called
-    ∙ ap (outermost (calling known MOST_CALLS [] d) ws (texts ws known own n)) closed
-    ∙ ap (λ (x : Bool). if x then None else join (calling known MOST_CALLS [] d (inside m ws)) rest_is) none
-    ∙ ap (λ (o : Option Given). join o rest_is)
-    (call_right known (MOST_CALLS - 1) [] d m ws right ∙ ap (join (counted (body_of d m ws))) (are_answered known (MOST_CALLS - 1) (d.name ∷ []) (body_of d m ws) us a body))
-    ∙ ap (join (Some (record { tokens = us; count = length (body_of d m ws) + a }))) (passing ws known own n (m + 2) ∙ left_is rest)
+    ∙ ap (outermost_call (calling known MOST_CALLS [] d) ws (texts ws known own n)) closed
+    ∙ ap (λ (x : Bool). if x then None else join_given (calling known MOST_CALLS [] d (inside m ws)) rest_is) none
+    ∙ ap (λ (o : Option Given). join_given o rest_is)
+    (call_right known (MOST_CALLS - 1) [] d m ws right ∙ ap (join_given (counted (body_of d m ws))) (are_answered known (MOST_CALLS - 1) (d.name ∷ []) (body_of d m ws) us a body))
+    ∙ ap (join_given (Some (record { tokens = us; count = length (body_of d m ws) + a }))) (passing ws known own n (m + 2) ∙ left_is rest)
 left_is (is_defined {known = known} {own = own} {w = w} {ws = ws} {d = d} here is rest) =
     ap (λ (x : Bool). text_turn 0 x (callee known w ws) w ws (texts ws) known (d ∷ own) 0 0) here ∙ passing ws (known ++ d ∷ []) own 0 d.size ∙ left_is rest
 
@@ -126,7 +126,7 @@ module _ (w : Word) (ws : List Word) (rest : IsRead ws) (known ds : List Inline)
       outside zero d own' is behind e = is_defined here is (rest d.size (known ++ d ∷ []) own' 0 g behind e)
       outside (suc m) d own' is behind e = absurd (not_some g e)
 
-  at_token : is_inline w ≡ false → callee known w ws ≡ None → definitions (w ∷ ws) 0 ≡ Some ds → join (itself w) (texts ws known ds (braces_behind n w) 0) ≡ Some g
+  at_token : is_inline w ≡ false → callee known w ws ≡ None → definitions (w ∷ ws) 0 ≡ Some ds → join_given (itself w) (texts ws known ds (braces_behind n w) 0) ≡ Some g
       → Leave known n (w ∷ ws) ds g.tokens g.count
   at_token plain none own h =
       let parts = join_parts (itself w) (texts ws known ds (braces_behind n w) 0) g h in
@@ -139,11 +139,11 @@ module _ (w : Word) (ws : List Word) (rest : IsRead ws) (known ds : List Inline)
       (subst (λ (c : ℕ). Leave known n (w ∷ ws) ds (w ∷ parts.1.tokens) c) (sym same) (stays plain none (rest 0 known ds (braces_behind n w) parts.1 behind parts.3)))
 
   at_call : (d : Inline) → is_inline w ≡ false → callee known w ws ≡ Some d → definitions (w ∷ ws) 0 ≡ Some ds → (o : Option ℕ) → closing OpenParen CloseParen (drop 1 ws) 0 ≡ o
-      → outermost (calling known MOST_CALLS [] d) ws (texts ws known ds n) o ≡ Some g → Leave known n (w ∷ ws) ds g.tokens g.count
+      → outermost_call (calling known MOST_CALLS [] d) ws (texts ws known ds n) o ≡ Some g → Leave known n (w ∷ ws) ds g.tokens g.count
   at_call d plain called own None closed h = absurd (not_some g h)
   at_call d plain called own (Some m) closed h = by (has_inline (inside m ws)) refl h
     where
-      by : (b : Bool) → has_inline (inside m ws) ≡ b → (if b then None else join (calling known MOST_CALLS [] d (inside m ws)) (texts ws known ds n (m + 2))) ≡ Some g
+      by : (b : Bool) → has_inline (inside m ws) ≡ b → (if b then None else join_given (calling known MOST_CALLS [] d (inside m ws)) (texts ws known ds n (m + 2))) ≡ Some g
           → Leave known n (w ∷ ws) ds g.tokens g.count
       by true inner e = absurd (not_some g e)
       by false inner e =

@@ -3,7 +3,7 @@ use Rattle.std.specs.Prelude.{◌≡◌, ◌≢◌, ℕ, nat_eq, true, false, �
 use Rattle.pml_token.specs.declared.token.Kind.{Kind}
 use Rattle.pml_token.specs.declared.token.Kind.TheVariants.{OpenParen, Comma}
 use Rattle.pml_token.specs.Word.{same_kind, Word}
-use Rattle.promela_text.specs.Inlines.{is_name, begins, closing, level_behind, arguments, Inline, callee}
+use Rattle.promela_text.specs.Inlines.{is_name, begins_as, closing, level_behind, arguments, Inline, callee}
 
 -- ---- what closes a bracket
 
@@ -70,7 +70,7 @@ pub data IsFirstOf (name : List ℕ) : List Inline → Inline → Type 0 where
 -- a name with a `(` behind it calls the first inline of its name that is known
 pub record IsCalled (known : List Inline) (w : Word) (ws : List Word) (d : Inline) : Type 0 where
   pub named : is_name w ≡ true
-  pub opened : begins OpenParen ws ≡ true
+  pub opened : begins_as OpenParen ws ≡ true
   pub first : IsFirstOf w.text known d
 
 abbrev pub CallsAreDerived : Type 0

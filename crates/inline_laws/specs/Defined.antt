@@ -2,7 +2,7 @@
 use Rattle.std.specs.Prelude.{◌≡◌, ℕ, ◌+◌, true, false, List, [], ◌∷◌, length, take, drop, Some}
 use Rattle.pml_token.specs.declared.token.Kind.TheVariants.{OpenParen, CloseParen, OpenBrace, CloseBrace, Comma}
 use Rattle.pml_token.specs.Word.{same_kind, Word}
-use Rattle.promela_text.specs.Inlines.{is_name, has_inline, begins, closing, Inline, all_differ, definition}
+use Rattle.promela_text.specs.Inlines.{is_name, has_inline, begins_as, closing, Inline, all_differ, definition}
 
 -- the tokens are names with commas between them and a `)` behind them, and more
 pub data Names : List Word → List (List ℕ) → List Word → Type 0 where
@@ -27,7 +27,7 @@ pub record IsDefinition (ws : List Word) (d : Inline) : Type 0 where
   pub name_is : d.name ≡ name.text
   pub opened : same_kind open_paren.kind OpenParen ≡ true
   pub parameters : Parameters inner d.parameters body_on
-  pub braced : begins OpenBrace body_on ≡ true
+  pub braced : begins_as OpenBrace body_on ≡ true
   pub within : ℕ
   pub closed : closing OpenBrace CloseBrace (drop 1 body_on) 0 ≡ Some within
   pub body : d.body ≡ take (within + 2) body_on

@@ -4,7 +4,7 @@ use Rattle.std.specs.Prelude.{slice_get}
 use Rattle.pml_program.specs.declared.program.Stmt.{Stmt}
 use Rattle.pml_program.specs.declared.program.Seq.{Seq, Seq', Row_of-Stmt, end_of-Stmt, more_of-Stmt, items-the_row-Stmt}
 use Rattle.pml_program.specs.declared.program.Basic.{Basic, Plain, Goto, Break, If', Do', Block, Atomic, DStep, Unless, Row_of-Seq, end_of-Seq, more_of-Seq, items-the_row-Seq}
-use Rattle.promela_process.specs.Control.{Position, Descent, Control, Todo, Back, Under, InAtomic, InDStep, steps, arm, descent, todos, behind, into, basic_at, sequence, beyond, at, all_of, position_of, broken, in_d_step, move_on, settle_within, settle, most_moves}
+use Rattle.promela_process.specs.Control.{Position, Descent, Control, Todo, Back, Under, InAtomic, InDStep, steps, arm, descent, todos, behind, into_arm, basic_at, sequence_at, beyond, at, all_of, position_of, behind_break, in_d_step, move_on, settle_within, settle, most_moves}
 use Rattle.pml_control.proofs.Words.{steps_of, behind_of, basic_of, at_position, go_on}
 use Rattle.promela_process.specs.Offers.{Edge, Levels, one, join, begins, begins_seq, begins_row, begins_any, escapes, offers}
 use Rattle.pml_control.proofs.Positions.{arm_there}
@@ -13,7 +13,7 @@ use Rattle.pml_control.proofs.Reaching.{first_of, rest_of, zero_plus, plus_zero,
 module _ (b : Seq) where
   -- this statement stands at the place
   abbrev pub IsStated : Position → Basic → Type 0
-  IsStated p s = basic_at (sequence (steps b) p.0) p.1 ≡ Some s
+  IsStated p s = basic_at (sequence_at (steps b) p.0) p.1 ≡ Some s
 
   -- each frame is of a statement that stands at its place
   abbrev pub Fits : Control → Type 0
@@ -26,10 +26,10 @@ module _ (b : Seq) where
 
   -- ---- from a place on
 
-  todos_fit : (q : List Descent) (i : ℕ) (ss : List Stmt) (c : Control) → drop i (sequence (steps b) q) ≡ ss → Fits c → Fits (todos q i ss c)
+  todos_fit : (q : List Descent) (i : ℕ) (ss : List Stmt) (c : Control) → drop i (sequence_at (steps b) q) ≡ ss → Fits c → Fits (todos q i ss c)
   todos_fit q i [] c is f = f
   todos_fit q i (s ∷ ss) c is f =
-      (ap basic_of (first_of (sequence (steps b) q) i s ss is), todos_fit q (i + 1) ss c (rest_of (sequence (steps b) q) i s ss is) f)
+      (ap basic_of (first_of (sequence_at (steps b) q) i s ss is), todos_fit q (i + 1) ss c (rest_of (sequence_at (steps b) q) i s ss is) f)
 
   behind_fits : (p : Position) (s : Basic) (k : ℕ) (c : Control) → IsStated p s → Fits c → Fits (behind p s k c)
   behind_fits p (Do' m row) k c is f = (is, f)
@@ -43,21 +43,21 @@ module _ (b : Seq) where
   behind_fits p (If' m row) k c is f = f
   behind_fits p (Block s) k c is f = f
 
-  into_fits : (p : Position) (s : Basic) (k : ℕ) (c : Control) → IsStated p s → Fits c → Fits (into p s k c)
+  into_fits : (p : Position) (s : Basic) (k : ℕ) (c : Control) → IsStated p s → Fits c → Fits (into_arm p s k c)
   into_fits p s k c is f = todos_fit (descent p k) 0 (arm s k) (behind p s k c) (arm_there (steps b) p.0 p.1 k s is) (behind_fits p s k c is f)
 
   beyond_fits : (q : List Descent) → Fits (beyond (steps b) q)
   beyond_fits [] = tt
   beyond_fits (t ∷ q) =
-      by (slice_get (sequence (steps b) q) t.0) refl (todos_fit q (t.0 + 1) (drop (t.0 + 1) (sequence (steps b) q)) (beyond (steps b) q) refl (beyond_fits q))
+      by (slice_get (sequence_at (steps b) q) t.0) refl (todos_fit q (t.0 + 1) (drop (t.0 + 1) (sequence_at (steps b) q)) (beyond (steps b) q) refl (beyond_fits q))
     where
-      by : (o : Option Stmt) → slice_get (sequence (steps b) q) t.0 ≡ o → Fits (todos q (t.0 + 1) (drop (t.0 + 1) (sequence (steps b) q)) (beyond (steps b) q))
-          → Fits (behind_of (q, t.0) o t.1 (todos q (t.0 + 1) (drop (t.0 + 1) (sequence (steps b) q)) (beyond (steps b) q)))
+      by : (o : Option Stmt) → slice_get (sequence_at (steps b) q) t.0 ≡ o → Fits (todos q (t.0 + 1) (drop (t.0 + 1) (sequence_at (steps b) q)) (beyond (steps b) q))
+          → Fits (behind_of (q, t.0) o t.1 (todos q (t.0 + 1) (drop (t.0 + 1) (sequence_at (steps b) q)) (beyond (steps b) q)))
       by None e f = tt
-      by (Some s) e f = behind_fits (q, t.0) s.basic t.1 (todos q (t.0 + 1) (drop (t.0 + 1) (sequence (steps b) q)) (beyond (steps b) q)) (ap basic_of e) f
+      by (Some s) e f = behind_fits (q, t.0) s.basic t.1 (todos q (t.0 + 1) (drop (t.0 + 1) (sequence_at (steps b) q)) (beyond (steps b) q)) (ap basic_of e) f
 
   pub at_fits : (p : Position) → Fits (at (steps b) p)
-  at_fits p = todos_fit p.0 p.1 (drop p.1 (sequence (steps b) p.0)) (beyond (steps b) p.0) refl (beyond_fits p.0)
+  at_fits p = todos_fit p.0 p.1 (drop p.1 (sequence_at (steps b) p.0)) (beyond (steps b) p.0) refl (beyond_fits p.0)
 
   -- ---- settling
 
@@ -65,7 +65,7 @@ module _ (b : Seq) where
   MoveFits None = Unit {0}
   MoveFits (Some d) = Fits d
 
-  broken_fits : (c : Control) → Fits c → Fits (broken c)
+  broken_fits : (c : Control) → Fits c → Fits (behind_break c)
   broken_fits [] f = tt
   broken_fits (Back p s ∷ c) f = f.1
   broken_fits (Todo p s ∷ c) f = broken_fits c f.1
@@ -86,7 +86,7 @@ module _ (b : Seq) where
   move_fits (Todo p (Unless s e) ∷ c) f = into_fits p (Unless s e) 0 c f.0 f.1
   move_fits (Todo p (DStep s) ∷ c) f = by (in_d_step c)
     where
-      by : (t : Bool) → MoveFits (if t then Some (into p (DStep s) 0 c) else None)
+      by : (t : Bool) → MoveFits (if t then Some (into_arm p (DStep s) 0 c) else None)
       by true = into_fits p (DStep s) 0 c f.0 f.1
       by false = tt
   move_fits (Todo p (Plain a) ∷ c) f = tt
@@ -141,10 +141,10 @@ module _ (b : Seq) where
 
   -- the statements of each option, the first of which is arm k
   abbrev Options : {n : _} → Position → ℕ → Row_of-Seq n → Type 0
-  Options p k row = (j : ℕ) → sequence (steps b) (descent p (k + j)) ≡ steps_of (slice_get (items-the_row-Seq _ row) j)
+  Options p k row = (j : ℕ) → sequence_at (steps b) (descent p (k + j)) ≡ steps_of (slice_get (items-the_row-Seq _ row) j)
 
-  options_of : {n : _} (p : Position) (s : Basic) (row : Row_of-Seq n) → ((j : ℕ) → sequence (steps b) (descent p j) ≡ steps_of (slice_get (items-the_row-Seq _ row) j)) → Options p 0 row
-  options_of p s row each j = ap (λ (k : ℕ). sequence (steps b) (descent p k)) (zero_plus j) ∙ each j
+  options_of : {n : _} (p : Position) (s : Basic) (row : Row_of-Seq n) → ((j : ℕ) → sequence_at (steps b) (descent p j) ≡ steps_of (slice_get (items-the_row-Seq _ row) j)) → Options p 0 row
+  options_of p s row each j = ap (λ (k : ℕ). sequence_at (steps b) (descent p k)) (zero_plus j) ∙ each j
 
   mutual
     begin_sound : (p : Position) (s : Basic) (c : Control) → IsStated p s → Fits c → Sound (begins b p s c)
@@ -165,10 +165,10 @@ module _ (b : Seq) where
         (seq_sound (descent p 0) s (Under p e ∷ c) (arm_there (steps b) p.0 p.1 0 (Unless s e) is) ((s, is), f))
         (seq_sound (descent p 1) e c (arm_there (steps b) p.0 p.1 1 (Unless s e) is) f)
 
-    seq_sound : (q : List Descent) (s : Seq) (c : Control) → sequence (steps b) q ≡ steps s → Fits c → Sound (begins_seq b q s c)
+    seq_sound : (q : List Descent) (s : Seq) (c : Control) → sequence_at (steps b) q ≡ steps s → Fits c → Sound (begins_seq b q s c)
     seq_sound q (Seq' m row) c is f = row_sound q row c is f
 
-    row_sound : {n : _} (q : List Descent) (row : Row_of-Stmt n) (c : Control) → sequence (steps b) q ≡ items-the_row-Stmt _ row → Fits c → Sound (begins_row b q row c)
+    row_sound : {n : _} (q : List Descent) (row : Row_of-Stmt n) (c : Control) → sequence_at (steps b) q ≡ items-the_row-Stmt _ row → Fits c → Sound (begins_row b q row c)
     row_sound q end_of-Stmt c is f = tt
     row_sound q (more_of-Stmt ls s ts rest) c is f =
         begin_sound (q, 0) s (todos q 1 (items-the_row-Stmt _ rest) c) (ap (λ (xs : List Stmt). basic_at xs 0) is)
@@ -178,8 +178,8 @@ module _ (b : Seq) where
     any_sound p k end_of-Seq c is f = tt
     any_sound p k (more_of-Seq s rest) c is f =
         join_sound (begins_seq b (descent p k) s c) (begins_any b p (k + 1) rest c)
-        (seq_sound (descent p k) s c (ap (λ (j : ℕ). sequence (steps b) (descent p j)) (sym (plus_zero k)) ∙ is 0) f)
-        (any_sound p (k + 1) rest c (λ j. ap (λ (i : ℕ). sequence (steps b) (descent p i)) (plus_one k j) ∙ is (suc j)) f)
+        (seq_sound (descent p k) s c (ap (λ (j : ℕ). sequence_at (steps b) (descent p j)) (sym (plus_zero k)) ∙ is 0) f)
+        (any_sound p (k + 1) rest c (λ j. ap (λ (i : ℕ). sequence_at (steps b) (descent p i)) (plus_one k j) ∙ is (suc j)) f)
 
   escapes_sound : (c : Control) → Fits c → Sound (escapes b c)
   escapes_sound [] f = tt

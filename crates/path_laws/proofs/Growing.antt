@@ -17,11 +17,11 @@ use Rattle.promela_process.specs.Expressions.{Reading, val, ◌>>=◌}
 use Rattle.promela_run.specs.declared.moves.Pick.{Pick}
 use Rattle.promela_run.specs.declared.goes.Goes.{Goes as Stored}
 use Rattle.promela_run.specs.Statements.{outcome, created, goes_to, sent, received, values, asserted}
-use Rattle.promela_run.specs.State.{Stand, State, reads, body_of, levels, first_control, joined}
+use Rattle.promela_run.specs.State.{Stand, State, reads, body_of, levels, first_control, youngest_joined}
 use Rattle.run_start.proofs.Chaining.{chain, chain_any, weaker}
 use Rattle.run_start.proofs.Touching.{Touched, created_touches}
 use Rattle.promela_run.specs.Moves.{choices}
-use Rattle.promela_run.specs.Steps.{put, put_by, put_all, with_sent, with_received, with_new, ran, run_number, Done, quiet, run_into, does, effect, behind, first_of, onward, within, within_from, taken, body_by}
+use Rattle.promela_run.specs.Steps.{put, put_by, put_all, with_sent, with_received, with_new, ran, run_number, Done, quiet, run_into, does, effect, behind_printed, first_of, onward, within, within_from, taken, body_by}
 use Rattle.run_state.specs.Calls.{put_if}
 use Rattle.path_laws.proofs.Fitting.{Fits, at_fits, settle_fits}
 
@@ -113,7 +113,7 @@ by_stays s r = chain_any (Grows s) r (λ g. Ok (put_if s g)) (λ g. put_stays s 
 pub first_fits : (b : Seq) → Fits b (first_control b)
 first_fits b = settle_fits b (at (steps b) ([], 0)) (at_fits b ([], 0))
 
-joined_grows : (s n : State) (kind : ℕ) (q : Proctype) → slice_get s.program.proctypes kind ≡ Some q → Touched (joined (record { sort = kind; control = first_control q.body }) s) n → Grows s n
+joined_grows : (s n : State) (kind : ℕ) (q : Proctype) → slice_get s.program.proctypes kind ≡ Some q → Touched (youngest_joined (record { sort = kind; control = first_control q.body }) s) n → Grows s n
 joined_grows s n kind q e touched = record {
   program = ap (λ (t : State). t.program) touched;
   more = record { sort = kind; control = first_control q.body } ∷ [];
@@ -125,7 +125,7 @@ new_grows : (s : State) (kind : ℕ) (o : Option Proctype) (vs : List ℤ) → s
 new_grows s kind None vs e = itself s
 new_grows s kind (Some q) vs e =
     let y : Stand = record { sort = kind; control = first_control q.body } in
-    weaker (Touched (joined y s)) (Grows s) (created s.program.typedefs y q.variables vs s) (λ n touched. joined_grows s n kind q e touched)
+    weaker (Touched (youngest_joined y s)) (Grows s) (created s.program.typedefs y q.variables vs s) (λ n touched. joined_grows s n kind q e touched)
     (created_touches s.program.typedefs y q.variables vs s)
 
 ran_grows : (s : State) (r : Reading) (q : Run) → IfOk (ran s r q) (Grows s)
@@ -186,10 +186,10 @@ onward_grows s false d rest h k = h
 within_grows : (n : ℕ) (s : State) (p : ℕ) (t : Bool) (b : Seq) (c : Control) → IfOk (within n s p t b c) (GrowsTo s)
 within_grows zero s p t b c = tt
 within_grows (suc n) s p t b c =
-    first_grows s (choices s.lossy s.channels (reads s p t) (levels b c)) (λ o. effect s p t o.basic >>= λ d. onward o.stays d (λ e. within n e.state p false b o.next >>= behind e.printed))
-    (λ o. chain (GrowsTo s) (GrowsTo s) (effect s p t o.basic) (λ d. onward o.stays d (λ e. within n e.state p false b o.next >>= behind e.printed)) (effect_grows s p t o.basic)
-    (λ d g. onward_grows s o.stays d (λ e. within n e.state p false b o.next >>= behind e.printed) g
-    (chain (GrowsTo d.state) (GrowsTo s) (within n d.state p false b o.next) (behind d.printed) (within_grows n d.state p false b o.next) (λ x h. grows_on s d.state x.state g h))))
+    first_grows s (choices s.lossy s.channels (reads s p t) (levels b c)) (λ o. effect s p t o.basic >>= λ d. onward o.stays d (λ e. within n e.state p false b o.next >>= behind_printed e.printed))
+    (λ o. chain (GrowsTo s) (GrowsTo s) (effect s p t o.basic) (λ d. onward o.stays d (λ e. within n e.state p false b o.next >>= behind_printed e.printed)) (effect_grows s p t o.basic)
+    (λ d g. onward_grows s o.stays d (λ e. within n e.state p false b o.next >>= behind_printed e.printed) g
+    (chain (GrowsTo d.state) (GrowsTo s) (within n d.state p false b o.next) (behind_printed d.printed) (within_grows n d.state p false b o.next) (λ x h. grows_on s d.state x.state g h))))
 
 from_grows : (n : ℕ) (s : State) (p : ℕ) (t : Bool) (b : Option Seq) (c : Option Control) → IfOk (within_from n s p t b c) (GrowsTo s)
 from_grows n s p t (Some b) (Some c) = within_grows n s p t b c

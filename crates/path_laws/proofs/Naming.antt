@@ -7,7 +7,7 @@ use Rattle.pml_program.specs.declared.program.Stmt.{Stmt}
 use Rattle.pml_program.specs.declared.program.Seq.{Seq}
 use Rattle.pml_program.specs.declared.program.Proctype.{Proctype}
 use Rattle.promela_process.specs.Control.{Control}
-use Rattle.promela_process.specs.Offers.{Edge, Levels, offers, Offer, offer_of, statement_at, action}
+use Rattle.promela_process.specs.Offers.{Edge, Levels, offers, Offer, offer_of, statement_at, statement_text}
 use Rattle.promela_process.specs.Offers as off
 use Rattle.pml_control.proofs.Reaching.{zero_plus, plus_zero, plus_one}
 use Rattle.promela_run.specs.Lines.{proctype_name}
@@ -17,7 +17,7 @@ use Rattle.promela_run.specs.declared.moves.Move.TheVariants.{Death, Alone, Pair
 use Rattle.promela_run.specs.State.{Stand, State, reads, body_of, levels, levels_in, picked}
 use Rattle.promela_run.specs.Moves.{or_else, each, last, only_if, is_else, can_alone, Message, message, accepts, pick, pairs_on, pairs_with, pairs, moves_by, plain_moves, else_moves, moves_on, moves_of, moves_at, moves_under, moves_held, moves}
 use Rattle.run_search.specs.Laws.{Each}
-use Rattle.promela_run.specs.World.{proctype_of, heading, offer_text, pick_text, death_text}
+use Rattle.promela_run.specs.World.{sort_of_process, heading, offer_with_heading, pick_text, death_text}
 use Rattle.promela_run.specs.declared.halt.Halt.{Halt}
 use Rattle.run_search.specs.Lifted.{offer_on, offer_at, moves_if, sort_of, line_in, brace_of, unless_stopped}
 use Rattle.pml_sim.specs.Origins.{IsOffered, IsThere}
@@ -37,7 +37,7 @@ offer_says b e = by (statement_at b e.0)
   where
     by : (x : Option Stmt) → (unwrap_or (option_map off.offer_text x) [] ≡ []) ⊎ ((more : List ℕ) × (unwrap_or (option_map off.offer_text x) [] ≡ codes "line " ++ (decimal (unwrap_or (option_map off.offer_line x) 0) ++ (codes " [" ++ more))))
     by None = inl refl
-    by (Some s) = inr (action s.basic s.tokens ++ codes "]", refl)
+    by (Some s) = inr (statement_text s.basic s.tokens ++ codes "]", refl)
 
 level_says : (b : Seq) (es : List Edge) → AllByRecursion Says (map (offer_of b) es)
 level_says b [] = tt
@@ -96,7 +96,7 @@ names_more place text rest h = record {
       ∙ ap (λ l. decimal place.1 ++ l) (append_assoc (codes " [") h.more rest))))));
 }
 
-offer_names : (p : ℕ) (q : Option Proctype) (o : Option Offer) → IfSome o Says → IsOffered o → (q ≡ None → o ≡ None) → NamesPlace (p, line_in o) (offer_text p q o)
+offer_names : (p : ℕ) (q : Option Proctype) (o : Option Offer) → IfSome o Says → IsOffered o → (q ≡ None → o ≡ None) → NamesPlace (p, line_in o) (offer_with_heading p q o)
 offer_names p q None says there lost = absurd there
 offer_names p None (Some o) says there lost = let e = lost refl in cc
 offer_names p (Some q) (Some o) (inl none) there lost = absurd (there none)
@@ -109,14 +109,14 @@ no_offer s k (Some y) e = rw e refl
 
 pick_names : (s : State) (k : Pick) → IsOffered (picked s k) → NamesPlace (k.process, line_in (picked s k)) (pick_text s k)
 pick_names s k there =
-    offer_names k.process (proctype_of s k.process) (picked s k) (picked_says s k (slice_get s.stands k.process)) there (no_offer s k (slice_get s.stands k.process))
+    offer_names k.process (sort_of_process s k.process) (picked s k) (picked_says s k (slice_get s.stands k.process)) there (no_offer s k (slice_get s.stands k.process))
 
 death_names : (p : ℕ) (q : Option Proctype) → IsSome q → NamesPlace (p, brace_of q) (death_text p q)
 death_names p None some = cc
 death_names p (Some q) some = heading_names p q.end.line q _ (codes "-end-]") (append_assoc (codes "line ") (decimal q.end.line) (codes " [-end-]"))
 
 pub texts_name_places : TextsNamePlaces
-texts_name_places s (Death p) there = death_names p (proctype_of s p) there
+texts_name_places s (Death p) there = death_names p (sort_of_process s p) there
 texts_name_places s (Alone k t) there = pick_names s k there
 texts_name_places s (Pair k j t) there = names_more (k.process, line_in (picked s k)) (pick_text s k) _ (pick_names s k there)
 

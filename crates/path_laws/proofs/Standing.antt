@@ -10,7 +10,7 @@ use Rattle.pml_program.specs.declared.program.Seq.{Seq}
 use Rattle.pml_program.specs.declared.program.Action.TheVariants as a
 use Rattle.pml_program.specs.declared.program.Proctype.{Proctype}
 use Rattle.pml_program.specs.declared.program.Program.{Program}
-use Rattle.promela_process.specs.Control.{Control, at, steps, sequence}
+use Rattle.promela_process.specs.Control.{Control, at, steps, sequence_at}
 use Rattle.promela_process.specs.Offers.{Edge, Levels, offers, Offer, offer_of, statement_at, offer_text}
 use Rattle.pml_control.proofs.Positions.{found}
 use Rattle.promela_process.specs.Store.{Frame}
@@ -23,7 +23,7 @@ use Rattle.promela_run.specs.declared.moves.Pick.{Pick}
 use Rattle.promela_run.specs.declared.moves.Move.{Move}
 use Rattle.promela_run.specs.declared.moves.Move.TheVariants.{Death, Alone, Pair}
 use Rattle.promela_run.specs.Moves.{message}
-use Rattle.promela_run.specs.Steps.{put_all, go_to, went, Done, taken, alone, both_on, paired, passed, step, moved_to}
+use Rattle.promela_run.specs.Steps.{put_all, go_to, went, Done, taken, alone, both_on, paired, passed, after_move, moved_to}
 use Rattle.promela_run.specs.World.{Running, first, led_to, rules}
 use Rattle.run_state.specs.Standing.{begins_by}
 use Rattle.run_search.specs.Lifted.{offer_on, offer_at, moved}
@@ -44,7 +44,7 @@ some_text s text is none = let e = sym is ∙ none in cc
 
 offer_fits : (b : Seq) (e : Edge) → IsSound b e → IsFitOffer b (offer_of b e)
 offer_fits b e h =
-    let f = found (sequence (steps b) e.0.0) e.0.1 h.0.0 h.0.1 in
+    let f = found (sequence_at (steps b) e.0.0) e.0.1 h.0.0 h.0.1 in
     (h.1, some_text f.stmt (unwrap_or (option_map offer_text (statement_at b e.0)) []) (ap (λ (o : Option Stmt). unwrap_or (option_map offer_text o) []) f.stands))
 
 level_fits : (b : Seq) (es : List Edge) → AreSound b es → AllByRecursion (IsFitOffer b) (map (offer_of b) es)
@@ -162,7 +162,7 @@ paired_fits s k j t None (Some w) f lo lw = f
 paired_fits s k j t None None f lo lw = f
 
 -- a state that a step leads to is fit too
-step_fits : (n : ℕ) (s : State) (m : Move) → IsFitState s → IfOk (step n s m) LeadsToFit
+step_fits : (n : ℕ) (s : State) (m : Move) → IsFitState s → IfOk (after_move n s m) LeadsToFit
 step_fits n s (Death p) f = all_taken (IsFitStand s.program) (length s.stands - 1) s.stands f
 step_fits n s (Alone k t) f = alone_fits n s k t (picked s k) f (picked_fits s k f)
 step_fits n s (Pair k j t) f = paired_fits s k j t (picked s k) (picked s j) f (picked_fits s k f) (picked_fits s j f)
@@ -179,7 +179,7 @@ led_fits frames (Err x) t printed f e = cc
 path_fits : (s : Running) (path : List (Leg Running Move)) (numbers : List ℕ) → IsPath rules s path numbers → IsFitState s.state → IsFitState (last_state s path).state
 path_fits s [] numbers is f = f
 path_fits s (leg ∷ legs) numbers (first, rest, same, on, path) f =
-    path_fits leg.next legs rest path (led_fits s.state.frames (step MOST_DSTEP_STATEMENTS s.state leg.move) leg.next on.printed (step_fits MOST_DSTEP_STATEMENTS s.state leg.move f) on.goes)
+    path_fits leg.next legs rest path (led_fits s.state.frames (after_move MOST_DSTEP_STATEMENTS s.state leg.move) leg.next on.printed (step_fits MOST_DSTEP_STATEMENTS s.state leg.move f) on.goes)
 
 -- the proctypes that a model starts with are there
 replicate_all : {A : Type 0} (P : A → Type 0) (n : ℕ) (x : A) → P x → AllByRecursion P (replicate n x)

@@ -71,7 +71,7 @@ few_begin n m most mosts = by_both (cases_lt most n) (cases_lt mosts m)
     by_both (inr g) (inl l) = inl (inr l)
     by_both (inr g) (inr h) = inr (g, h)
 
-on_marks : (x : Condition) (ms : List Mark) → marks.Applies x ms ⊎ marks.Fits x ms
+on_marks : (x : Condition) (ms : List Mark) → marks.AppliesToMarks x ms ⊎ marks.FitsMarks x ms
 on_marks condition.Twice ms = somewhere (broken condition.Twice ms) ms
 on_marks condition.Unknown ms = somewhere (broken condition.Unknown ms) ms
 on_marks condition.Wrong ms = somewhere (broken condition.Wrong ms) ms
@@ -84,7 +84,7 @@ on_marks condition.Cells ms = somewhere (broken condition.Cells ms) ms
 on_marks condition.NoProcess ms = turned (somewhere begins_there ms)
 on_marks condition.Start ms = few_begin (processes ms) (first_channels ms) _ _
 
-on_condition : (o : Option Condition) (ms : List Mark) → IsSomeAnd o (λ c. marks.Applies c ms) ⊎ IfSome o (λ c. marks.Fits c ms)
+on_condition : (o : Option Condition) (ms : List Mark) → IsSomeAnd o (λ c. marks.AppliesToMarks c ms) ⊎ IfSome o (λ c. marks.FitsMarks c ms)
 on_condition None ms = inr tt
 on_condition (Some x) ms = on_marks x ms
 
@@ -160,7 +160,7 @@ on_model r.Inline p = inr tt
 
 -- ---- on a tree
 
-on_both : (x : Refusal) (ms : List Mark) (p : Program) → IsSomeAnd (condition_of x) (λ c. marks.Applies c ms) ⊎ IfSome (condition_of x) (λ c. marks.Fits c ms) → BreaksModel x p ⊎ KeepsModel x p → AppliesTo x ms p ⊎ FitsTo x ms p
+on_both : (x : Refusal) (ms : List Mark) (p : Program) → IsSomeAnd (condition_of x) (λ c. marks.AppliesToMarks c ms) ⊎ IfSome (condition_of x) (λ c. marks.FitsMarks c ms) → BreaksModel x p ⊎ KeepsModel x p → AppliesTo x ms p ⊎ FitsTo x ms p
 unfolding AppliesTo FitsTo
 on_both x ms p (inl a) other = inl (inl a)
 on_both x ms p (inr k) (inl a) = inl (inr a)

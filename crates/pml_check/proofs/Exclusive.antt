@@ -19,7 +19,7 @@ use Rattle.promela_run.specs.Judged.{condition_of, BreaksModel, KeepsModel, Some
 some_none : (p : List Mark → Mark → Bool) (ms : List Mark) → Somewhere p ms → Nowhere p ms → ⊥
 some_none p ms h f = let e : true ≡ false = sym h.3 ∙ f h.0 h.1 h.2 in absurd cc
 
-marks_apart : (x : Condition) (ms : List Mark) → marks.Applies x ms → marks.Fits x ms → ⊥
+marks_apart : (x : Condition) (ms : List Mark) → marks.AppliesToMarks x ms → marks.FitsMarks x ms → ⊥
 marks_apart condition.Twice ms a f = some_none (broken condition.Twice ms) ms a f
 marks_apart condition.Unknown ms a f = some_none (broken condition.Unknown ms) ms a f
 marks_apart condition.Wrong ms a f = some_none (broken condition.Wrong ms) ms a f
@@ -33,7 +33,7 @@ marks_apart condition.NoProcess ms a f = some_none begins_there ms f a
 marks_apart condition.Start ms (inl a) f = let g = f.0 in omega arith
 marks_apart condition.Start ms (inr a) f = let g = f.1 in omega arith
 
-condition_apart : (x : Option Condition) (ms : List Mark) → IsSomeAnd x (λ c. marks.Applies c ms) → IfSome x (λ c. marks.Fits c ms) → ⊥
+condition_apart : (x : Option Condition) (ms : List Mark) → IsSomeAnd x (λ c. marks.AppliesToMarks c ms) → IfSome x (λ c. marks.FitsMarks c ms) → ⊥
 condition_apart None ms a f = a
 condition_apart (Some x) ms a f = marks_apart x ms a f
 

@@ -27,7 +27,7 @@ use Rattle.pml_program.specs.declared.program.Proctype.{Proctype}
 use Rattle.pml_program.specs.declared.program.Program.{Program}
 use Rattle.check_resolve.specs.Declarations.{natural}
 use Rattle.check_resolve.specs.Model.{numbered_model}
-use Rattle.promela_model.specs.Stands.{cells}
+use Rattle.promela_model.specs.Stands.{cells_in_all}
 use Rattle.check_meaning.proofs.Limits.{Few, AllFew, all-few, room, Rooms}
 use Rattle.check_meaning.proofs.Limited.{IsLimited, model-limited}
 use Rattle.run_start.specs.Bound.{cells_of, largest, room_by, room_of, room_of_fields, room_of_processes, IsWithin}
@@ -54,12 +54,12 @@ few_here : (ms : List Mark) (k : ℕ) (m : Mark) → marks.broken condition.Cell
 unfolding judged env
 few_here ms k m h = few_by (env (take k ms)) m.owner m.what (ap (λ (b : Before). too_many b m.owner m.what) (told-before (take k ms)) ∙ h)
 
-all_few : (ms : List Mark) → marks.Fits condition.Cells ms → AllFew [] ms
+all_few : (ms : List Mark) → marks.FitsMarks condition.Cells ms → AllFew [] ms
 all_few ms h = all-few [] ms (λ k m e. few_here ms k m (h k m e))
 
 -- ---- the model
 
-same_cells : (ss : List Slot) → cells_of ss ≡ cells ss
+same_cells : (ss : List Slot) → cells_of ss ≡ cells_in_all ss
 same_cells [] = refl
 same_cells (s ∷ ss) = ap (λ (n : ℕ). s.length * s.stride + n) (same_cells ss)
 
@@ -80,13 +80,13 @@ fields_room [] h = omega arith
 fields_room (t ∷ ts) h = at_most-both (room_of t.fields) (room_of_fields ts) MOST_CELLS (slots_room t.fields h.0) (fields_room ts h.1)
 
 abbrev Processes : List Proctype → Type 0
-Processes = AllByRecursion (λ (q : Proctype). (cells q.variables ≤ MOST_CELLS) × Rooms q.variables)
+Processes = AllByRecursion (λ (q : Proctype). (cells_in_all q.variables ≤ MOST_CELLS) × Rooms q.variables)
 
 processes_room : (qs : List Proctype) → Processes qs → room_of_processes qs ≤ MOST_CELLS
 processes_room [] h = omega arith
 processes_room (q ∷ qs) h = at_most-both (room_of q.variables) (room_of_processes qs) MOST_CELLS (slots_room q.variables h.0.1) (processes_room qs h.1)
 
-few_cells : (ss : List Slot) → cells ss ≤ MOST_CELLS → cells_of ss ≤ MOST_CELLS
+few_cells : (ss : List Slot) → cells_in_all ss ≤ MOST_CELLS → cells_of ss ≤ MOST_CELLS
 few_cells ss h = subst (λ (n : ℕ). n ≤ MOST_CELLS) (sym (same_cells ss)) h
 
 processes_cells : (qs : List Proctype) → Processes qs → largest qs ≤ MOST_CELLS

@@ -19,8 +19,8 @@ DecidesSteps true ps = SomeBody BadFirstPoint ps
 DecidesSteps false ps = EachBody FirstPointsFit ps
 
 abbrev pub DecidesCondition : Bool → Option Condition → List Mark → Type 0
-DecidesCondition true x ms = IsSomeAnd x (λ c. marks.Applies c ms)
-DecidesCondition false x ms = IfSome x (λ c. marks.Fits c ms)
+DecidesCondition true x ms = IsSomeAnd x (λ c. marks.AppliesToMarks c ms)
+DecidesCondition false x ms = IfSome x (λ c. marks.FitsMarks c ms)
 
 abbrev pub DecidesStart : Bool → Program → Type 0
 DecidesStart true p = HasBadStart p

@@ -7,7 +7,7 @@ use Rattle.std.specs.Borrow.{Bor}
 use Rattle.std.specs.Option.{option_copied}
 use Rattle.pml_program.specs.declared.program.Stmt.{Stmt}
 use Rattle.pml_program.specs.declared.program.Basic.{Basic}
-use Rattle.promela_process.specs.Control.{Descent, Todo, basic_at, arm, behind, todos, into, sequence, beyond, at}
+use Rattle.promela_process.specs.Control.{Descent, Todo, basic_at, arm, behind, todos, into_arm, sequence_at, beyond, at}
 use Rattle.pml_control.proofs.Words.{basic_of, arm_of, behind_of}
 
 -- the statement that stands at a position, with its labels
@@ -40,36 +40,36 @@ drop_past (x ∷ ss) (suc i) h = drop_past ss i h
 
 module _ (b : List Stmt) where
   -- a statement stands first at its position, and what is behind it follows
-  pub stands : (q : List Descent) (i : ℕ) (x : Basic) → basic_at (sequence b q) i ≡ Some x → at b (q, i) ≡ Todo (q, i) x ∷ at b (q, i + 1)
+  pub stands : (q : List Descent) (i : ℕ) (x : Basic) → basic_at (sequence_at b q) i ≡ Some x → at b (q, i) ≡ Todo (q, i) x ∷ at b (q, i + 1)
   stands q i x h =
-      let f = found (sequence b q) i x h in
-      rw (drop_at (sequence b q) i f.stmt f.stands) (ap (λ y. Todo (q, i) y ∷ at b (q, i + 1)) f.basic)
+      let f = found (sequence_at b q) i x h in
+      rw (drop_at (sequence_at b q) i f.stmt f.stands) (ap (λ y. Todo (q, i) y ∷ at b (q, i + 1)) f.basic)
 
   -- where no statement stands, the sequence is done
-  pub past : (q : List Descent) (i : ℕ) → basic_at (sequence b q) i ≡ None → at b (q, i) ≡ beyond b q
-  past q i h = ap (λ ss. todos q i ss (beyond b q)) (drop_past (sequence b q) i (none_in _ h))
+  pub past : (q : List Descent) (i : ℕ) → basic_at (sequence_at b q) i ≡ None → at b (q, i) ≡ beyond b q
+  past q i h = ap (λ ss. todos q i ss (beyond b q)) (drop_past (sequence_at b q) i (none_in _ h))
 
   -- the arm of a statement, and what is behind it
-  pub arm_there : (q : List Descent) (j k : ℕ) (x : Basic) → basic_at (sequence b q) j ≡ Some x → sequence b ((j, k) ∷ q) ≡ arm x k
+  pub arm_there : (q : List Descent) (j k : ℕ) (x : Basic) → basic_at (sequence_at b q) j ≡ Some x → sequence_at b ((j, k) ∷ q) ≡ arm x k
   arm_there q j k x h =
-      let f = found (sequence b q) j x h in ap (λ o. arm_of o k) f.stands ∙ ap (λ y. arm y k) f.basic
+      let f = found (sequence_at b q) j x h in ap (λ o. arm_of o k) f.stands ∙ ap (λ y. arm y k) f.basic
 
-  pub beyond_there : (q : List Descent) (j k : ℕ) (x : Basic) → basic_at (sequence b q) j ≡ Some x → beyond b ((j, k) ∷ q) ≡ behind (q, j) x k (at b (q, j + 1))
+  pub beyond_there : (q : List Descent) (j k : ℕ) (x : Basic) → basic_at (sequence_at b q) j ≡ Some x → beyond b ((j, k) ∷ q) ≡ behind (q, j) x k (at b (q, j + 1))
   beyond_there q j k x h =
-      let f = found (sequence b q) j x h in
+      let f = found (sequence_at b q) j x h in
       ap (λ o. behind_of (q, j) o k (at b (q, j + 1))) f.stands ∙ ap (λ y. behind (q, j) y k (at b (q, j + 1))) f.basic
 
   -- into an arm
-  pub entered : (q : List Descent) (j k : ℕ) (x : Basic) → basic_at (sequence b q) j ≡ Some x → at b ((j, k) ∷ q, 0) ≡ into (q, j) x k (at b (q, j + 1))
+  pub entered : (q : List Descent) (j k : ℕ) (x : Basic) → basic_at (sequence_at b q) j ≡ Some x → at b ((j, k) ∷ q, 0) ≡ into_arm (q, j) x k (at b (q, j + 1))
   entered q j k x h =
       ap (λ ss. todos ((j, k) ∷ q) 0 ss (beyond b ((j, k) ∷ q))) (arm_there q j k x h)
       ∙ ap (λ c. todos ((j, k) ∷ q) 0 (arm x k) c) (beyond_there q j k x h)
 
   -- descents into no statement
-  pub lost_arm : (q : List Descent) (j k : ℕ) → basic_at (sequence b q) j ≡ None → sequence b ((j, k) ∷ q) ≡ []
+  pub lost_arm : (q : List Descent) (j k : ℕ) → basic_at (sequence_at b q) j ≡ None → sequence_at b ((j, k) ∷ q) ≡ []
   lost_arm q j k h = ap (λ o. arm_of o k) (none_in _ h)
 
-  pub lost : (q : List Descent) (j k : ℕ) → basic_at (sequence b q) j ≡ None → beyond b ((j, k) ∷ q) ≡ []
+  pub lost : (q : List Descent) (j k : ℕ) → basic_at (sequence_at b q) j ≡ None → beyond b ((j, k) ∷ q) ≡ []
   lost q j k h = ap (λ o. behind_of (q, j) o k (at b (q, j + 1))) (none_in _ h)
 
 -- what a look at a position says where there is nothing

@@ -9,7 +9,7 @@ use Rattle.pml_program.specs.declared.program.Basic.{Basic, Plain, Goto, Break, 
 use Rattle.pml_control.specs.declared.ends.Ending.{Ending}
 use Rattle.pml_control.specs.declared.ends.Ending.TheVariants as ending
 use Rattle.pml_control.specs.Ends.{ending_of}
-use Rattle.promela_process.specs.Control.{is_among, steps}
+use Rattle.promela_process.specs.Control.{is_label_among, steps}
 
 -- A post: a statement with its labels, or the end of a sequence. It goes on to a label, to another post, or stays.
 -- Of a d_step it has the least number inside, and that of its first statement, which is the greatest.
@@ -119,7 +119,7 @@ or_else (Some n) o = Some n
 -- the last post with a label, counted from k
 abbrev pub numbered : List ℕ → ℕ → List Spot → Option ℕ
 numbered l k [] = None
-numbered l k (n ∷ ns) = or_else (numbered l (k + 1) ns) (if is_among l n.labels then Some k else None)
+numbered l k (n ∷ ns) = or_else (numbered l (k + 1) ns) (if is_label_among l n.labels then Some k else None)
 
 -- post 0 where there is none
 abbrev pub or_end : Option ℕ → ℕ

@@ -6,7 +6,7 @@ use Rattle.pml_tree.specs.declared.tree.Search.{Search}
 use Rattle.pml_tree.specs.declared.tree.Search.TheVariants.{Matching}
 use Rattle.pml_program.specs.declared.expr.Want.{Want}
 use Rattle.promela_process.specs.declared.sought.Sought.{Sought}
-use Rattle.promela_process.specs.Expressions.{matched, taken, Reading, Wanted, want, wants_of, is_match, ◌>>=◌}
+use Rattle.promela_process.specs.Expressions.{matched, matches_field, Reading, Wanted, want, wants_of, is_match, ◌>>=◌}
 
 -- where all ask ws, the rest asks something that the rest of the fields is where all fields are ws
 abbrev pub Rest : ℕ → List Want → List ℤ → Reading → List Sought → Type 0
@@ -37,7 +37,7 @@ wants-length (a ∷ more) r ws h = found (want a r) refl (wants-length more r)
         cc
 
 -- one field more
-pub Rest-next : (i : ℕ) (wants : List Want) (xs : List ℤ) (r : Reading) (ws : List Sought) (d : Want) (w : Sought) → i < length wants → i < length xs → want (get_or wants i d) r ≡ Ok w → taken w (get_or xs i (pos 0)) ≡ true → Rest i wants xs r ws → Rest (i + 1) wants xs r ws
+pub Rest-next : (i : ℕ) (wants : List Want) (xs : List ℤ) (r : Reading) (ws : List Sought) (d : Want) (w : Sought) → i < length wants → i < length xs → want (get_or wants i d) r ≡ Ok w → matches_field w (get_or xs i (pos 0)) ≡ true → Rest i wants xs r ws → Rest (i + 1) wants xs r ws
 Rest-next i wants xs r ws d w l k e t h all =
     let p = h all in
     let s = wants-cons (want (get_or wants i d)) (map want (drop (i + 1) wants)) r w p.0 (sym (at_drop_more (λ (l : List Want). wants_of (map want l) r) wants i d l) ∙ p.1) e in (

@@ -9,7 +9,7 @@ use Rattle.pml_program.specs.declared.form.Form.{Form}
 use Rattle.pml_program.specs.declared.form.Form.TheVariants.{Plain, Unsigned, Struct, Unknown}
 use Rattle.pml_tree.specs.declared.tree.Scalar.{Scalar}
 use Rattle.pml_tree.specs.declared.tree.Scalar.TheVariants as word
-use Rattle.promela_process.specs.Numbers.{bits_of, bits_of_word, is_signed, residue, placed, clipped}
+use Rattle.promela_process.specs.Numbers.{bits_of, bits_of_word, is_signed, residue, signed_part, clipped}
 use Rattle.pml_eval.specs.Range.{InBits, Differ, IsClip}
 
 -- ---- it is there
@@ -35,7 +35,7 @@ signed_is : (b : Bool) (half d low : ℕ) (v : ℤ) → (b ≡ true → low < ha
 signed_is true half d low v y n e below h = let l : low < half = y refl in ((omega (arith, ints), omega (arith, ints)), h)
 signed_is false half d low v y n e below h = let l : half ≤ low = n refl in ((omega (arith, ints), omega (arith, ints)), lowered d low v h)
 
-placed_is : (b : Bool) (n low : ℕ) (v : ℤ) → (b ≡ true → 1 ≤ n) → low < 2 ^ n → Differ (2 ^ n) v (pos low) → InBits b n (placed b n low) × Differ (2 ^ n) v (placed b n low)
+placed_is : (b : Bool) (n low : ℕ) (v : ℤ) → (b ≡ true → 1 ≤ n) → low < 2 ^ n → Differ (2 ^ n) v (pos low) → InBits b n (signed_part b n low) × Differ (2 ^ n) v (signed_part b n low)
 placed_is false n low v h below d = ((omega (arith, ints), omega (arith, ints)), d)
 placed_is true n low v h below d = signed_is (nat_lt low (2 ^ (n - 1))) (2 ^ (n - 1)) (2 ^ n) low v (ltb-true _ _) (ltb-false _ _) (halves n (h refl)) below d
 
@@ -96,10 +96,10 @@ clipped-only form v r c =
     one_in_bits (is_signed form) (bits_of form) v r (clipped form v) (bits_at_least form) c.range d.range c.differ d.differ
 
 -- a number in the range is kept as it is
-pub placed-same : (b : Bool) (n : ℕ) (v : ℤ) → (b ≡ true → 1 ≤ n) → InBits b n v → v ≡ placed b n (residue n v)
+pub placed-same : (b : Bool) (n : ℕ) (v : ℤ) → (b ≡ true → 1 ≤ n) → InBits b n v → v ≡ signed_part b n (residue n v)
 placed-same b n v h range =
     let p = placed_is b n (residue n v) v h (residue_below n v) (residue_differs n v) in
-    one_in_bits b n v v (placed b n (residue n v)) h range p.0 (0, 0, refl) p.1
+    one_in_bits b n v v (signed_part b n (residue n v)) h range p.0 (0, 0, refl) p.1
 
 pub clipped-same : (form : Form) (v : ℤ) → InBits (is_signed form) (bits_of form) v → v ≡ clipped form v
 clipped-same form v range = clipped-only form v v (record { range = range; differ = (0, 0, refl) })

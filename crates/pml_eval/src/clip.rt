@@ -2,7 +2,7 @@
 
 ghost use Rattle.std.specs.Prelude.{◌≡◌, ◌≤◌, ◌<◌, ◌^◌, true, false, pos, ℤ};
 ghost use Rattle.pml_program.specs.declared.form.Form.{Form};
-ghost use Rattle.promela_process.specs.Numbers.{bits_of, bits_of_word, is_signed, is_word_signed, residue, placed, clipped};
+ghost use Rattle.promela_process.specs.Numbers.{bits_of, bits_of_word, is_signed, is_word_signed, residue, signed_part, clipped};
 ghost use Rattle.pml_eval.specs.Range.{InBits, IsClip};
 
 use pml_program::form::Form;
@@ -39,7 +39,7 @@ fn cut(bits: u32, signed: bool, v: i32) -> i32
     requires narrow { signed ≡ false → bits < 32 }
     requires least { signed ≡ true → 1 ≤ bits }
     requires most { bits ≤ 32 }
-    ensures { result ≡ placed signed bits (residue bits v) }
+    ensures { result ≡ signed_part signed bits (residue bits v) }
 {
     if is_in_range(bits, signed, v) {
         return v;

@@ -4,7 +4,7 @@ ghost use Rattle.std.specs.Prelude.{◌≡◌, ◌+◌, ◌*◌, ◌<◌, ◌≤
 ghost use Rattle.profile.specs.declared.TheConstants.{MOST_FIELDS};
 ghost use Rattle.pml_program.specs.declared.expr.Expr.TheVariants.{Read};
 ghost use Rattle.promela_process.specs.declared.sought.Sought.{Sought};
-ghost use Rattle.promela_process.specs.Expressions.{val, place, cells, cells_of, want, asked_by, within, inside, index_of, polled, is_match, matched};
+ghost use Rattle.promela_process.specs.Expressions.{val, place, turned_by, cells_of, want, asked_by, index_inside, cell_inside, index_of, polled, is_match, matched};
 ghost use Rattle.pml_eval.specs.Asking.{asked, has_match, messages_at, settled};
 ghost use Rattle.pml_eval.specs.There.{IsThere, AreThere};
 
@@ -288,7 +288,7 @@ fn place_by_turns<G: Ground>(target: &Target, ground: &G) -> Result<Place, Fault
 #[cycle(eval)]
 fn turned<G: Ground>(turns: &[Turn], whole: usize, ground: &G) -> Result<usize, Fault>
     requires { 0 < whole }
-    ensures value { result ≡ cells_of (map cells turns.now) whole 0 (G.reading ground.now) }
+    ensures value { result ≡ cells_of (map turned_by turns.now) whole 0 (G.reading ground.now) }
     ensures there { IfOk result (λ c. c < whole) }
 {
     let mut cell = 0;
@@ -301,7 +301,7 @@ fn turned<G: Ground>(turns: &[Turn], whole: usize, ground: &G) -> Result<usize, 
 /// How many cells a turn goes on by.
 #[cycle(eval)]
 fn cells<G: Ground>(turn: &Turn, ground: &G) -> Result<usize, Fault>
-    ensures { result ≡ cells turn.now (G.reading ground.now) }
+    ensures { result ≡ turned_by turn.now (G.reading ground.now) }
 {
     match &turn.index {
         None => Ok(turn.offset as usize),
@@ -324,7 +324,7 @@ fn element_of<G: Ground>(index: &Expr, length: u32, ground: &G) -> Result<u32, F
 
 /// The cell so many cells further on, in a variable that has `whole`.
 fn further(whole: usize, cell: usize, by: usize) -> Result<usize, Fault>
-    ensures value { result ≡ inside whole (cell + by) }
+    ensures value { result ≡ cell_inside whole (cell + by) }
     ensures there { IfOk result (λ c. c < whole) }
 {
     match cell.checked_add(by) {
@@ -341,7 +341,7 @@ fn element(offset: u32, index: u32, stride: u32) -> usize
 }
 
 fn index_within(length: u32, x: i32) -> Result<u32, Fault>
-    ensures value { result ≡ within length x }
+    ensures value { result ≡ index_inside length x }
     ensures below { IfOk result (λ i. i < length) }
 {
     match u32::try_from(x) {

@@ -2,14 +2,14 @@
 
 ghost use Rattle.std.specs.Prelude.{◌≡◌};
 ghost use Rattle.pml_tree.specs.declared.tree.Infix.TheVariants as op;
-ghost use Rattle.promela_process.specs.Numbers.{prefixed, infixed, decided, shifted_left, shifted_right, truth};
+ghost use Rattle.promela_process.specs.Numbers.{prefixed, infixed, decided, shifted_left, shifted_right, truth_number};
 
 use diagnostics::Fault;
 use pml_tree::tree::{Infix, Prefix};
 
 /// 1 for true, 0 for false.
 pub fn number_of(b: bool) -> i32
-    ensures { result ≡ truth b }
+    ensures { result ≡ truth_number b }
 {
     if b { 1 } else { 0 }
 }

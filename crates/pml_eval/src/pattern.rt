@@ -2,7 +2,7 @@
 
 ghost use Rattle.std.specs.Prelude.{◌≡◌, ◌<◌, ◌++◌, ◌∷◌, [], length};
 ghost use Rattle.profile.specs.declared.TheConstants.{MOST_FIELDS};
-ghost use Rattle.promela_process.specs.Expressions.{matched, taken};
+ghost use Rattle.promela_process.specs.Expressions.{matched, matches_field};
 
 use pml_program::form::Form;
 use profile::MOST_FIELDS;
@@ -74,7 +74,7 @@ pub fn matches(sought: &[Sought], fields: &[i32]) -> bool
 
 /// Whether a field is what is asked of it.
 pub fn takes(one: Sought, field: i32) -> bool
-    ensures { result ≡ taken one field }
+    ensures { result ≡ matches_field one field }
 {
     match one {
         Sought::Exactly(n) => n == field,

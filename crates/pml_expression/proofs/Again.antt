@@ -15,7 +15,7 @@ use Rattle.pml_tree.specs.declared.tree.Argument.{Argument}
 use Rattle.pml_tree.specs.declared.tree.Reference.{Reference}
 use Rattle.pml_tree.specs.declared.tree.Step.{Step}
 use Rattle.promela_model.specs.GrammarOfExpressions as grammar
-use Rattle.promela_model.specs.GrammarOfExpressions.{operator, level, prefix_level, truth, fill, query, prefix_operator, SpellsIndex, SpellsStep, SpellsFields, SpellsReference, SpellsExpr, SpellsArgument, SpellsArgumentList, SpellsArguments}
+use Rattle.promela_model.specs.GrammarOfExpressions.{operator, level, prefix_level, truth_of_word, fill, query, prefix_operator, SpellsIndex, SpellsStep, SpellsFields, SpellsReference, SpellsExpr, SpellsArgument, SpellsArgumentList, SpellsArguments}
 use Rattle.pml_expression.specs.declared.operators.Start.TheVariants as s
 use Rattle.pml_expression.specs.Starts.{start as start_of}
 use Rattle.pml_expression.specs.Reading as reading
@@ -173,7 +173,7 @@ argument_at : {kind : Kind} (reader : ℕ → List Word → Read Expr) (ts : Lis
 unfolding reading.argument
 argument_at reader ts r is h = subst (λ (x : Kind). reading.argument_by reader (start_of x) ts ≡ r) (sym is) h
 
-truth_start : (kind : Kind) (v : Bool) → truth kind ≡ Some v → start_of kind ≡ s.Truth v
+truth_start : (kind : Kind) (v : Bool) → truth_of_word kind ≡ Some v → start_of kind ≡ s.Truth v
 truth_start k.True v h = cc
 truth_start k.Skip v h = cc
 truth_start k.False v h = cc
@@ -211,7 +211,7 @@ fields_begin : {ss : List Step} {from to : List Word} → SpellsFields ss from t
 fields_begin grammar.no_field h = h
 fields_begin (grammar.one_field is _ _) h = not_kind _ k.Dot k.OpenBracket is refl
 
-truth_no_paren : (kind : Kind) (v : Bool) → truth kind ≡ Some v → same_kind kind k.OpenParen ≡ false
+truth_no_paren : (kind : Kind) (v : Bool) → truth_of_word kind ≡ Some v → same_kind kind k.OpenParen ≡ false
 truth_no_paren k.OpenParen v h = absurd cc
 truth_no_paren _ v h = refl
 

@@ -16,7 +16,7 @@ use Rattle.pml_tree.specs.declared.tree.Argument.TheVariants as g
 use Rattle.pml_tree.specs.declared.tree.Reference.{Reference}
 use Rattle.pml_tree.specs.declared.tree.Step.{Step}
 use Rattle.promela_model.specs.GrammarOfExpressions as grammar
-use Rattle.promela_model.specs.GrammarOfExpressions.{operator, level, prefix_level, truth, fill, query, prefix_operator, SpellsIndex, SpellsStep, SpellsFields, SpellsReference, SpellsExpr, SpellsArgument, SpellsArgumentList, SpellsArguments}
+use Rattle.promela_model.specs.GrammarOfExpressions.{operator, level, prefix_level, truth_of_word, fill, query, prefix_operator, SpellsIndex, SpellsStep, SpellsFields, SpellsReference, SpellsExpr, SpellsArgument, SpellsArgumentList, SpellsArguments}
 use Rattle.pml_expression.specs.declared.operators.Start.{Start}
 use Rattle.pml_expression.specs.declared.operators.Start.TheVariants as s
 use Rattle.pml_expression.specs.Starts.{start as start_of}
@@ -27,7 +27,7 @@ use Rattle.pml_expression.proofs.Lists.{GoesOn, one_more, none_more, all_found, 
 
 -- ---- what a token begins, by the tables
 
-start_truth : (kind : Kind) (v : Bool) → start_of kind ≡ s.Truth v → truth kind ≡ Some v
+start_truth : (kind : Kind) (v : Bool) → start_of kind ≡ s.Truth v → truth_of_word kind ≡ Some v
 start_truth k.True v h = cc
 start_truth k.Skip v h = cc
 start_truth k.False v h = cc

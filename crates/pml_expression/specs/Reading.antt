@@ -20,7 +20,7 @@ use Rattle.pml_expression.specs.declared.fault.ReadFault.{ReadFault}
 use Rattle.pml_expression.specs.declared.fault.ReadFault.TheVariants as fault
 use Rattle.pml_expression.specs.declared.operators.Start.{Start}
 use Rattle.pml_expression.specs.declared.operators.Start.TheVariants as s
-use Rattle.promela_model.specs.GrammarOfExpressions.{operator, level, prefix_level, query, step_of, reference_of}
+use Rattle.promela_model.specs.GrammarOfExpressions.{operator, level, prefix_level, query, named_step, reference_of}
 use Rattle.pml_expression.specs.Starts.{start}
 
 -- what was read, and the tokens behind it
@@ -170,7 +170,7 @@ module _ (expr : ℕ → List Word → Read Expr) where
   step ts = do
     name ← expect k.Name ts
     i ← index name.1
-    Ok (step_of name.0 i.0, i.1)
+    Ok (named_step name.0 i.0, i.1)
 
   unfoldable pub fields_from : ℕ → List Step → List Word → Read (List Step)
   fields_from zero found ts = Ok (found, ts)

@@ -4,7 +4,7 @@ use Rattle.std.specs.Prelude.{slice_get}
 use Rattle.pml_program.specs.declared.program.Stmt.{Stmt}
 use Rattle.pml_program.specs.declared.program.Seq.{Seq}
 use Rattle.pml_program.specs.declared.program.Basic.{Basic, Plain, Goto, Break, If', Do', Block, Atomic, DStep, Unless}
-use Rattle.promela_process.specs.Control.{Descent, Position, Todo, Control, steps, basic_at, sequence, beyond, behind, at, into, todos, settle}
+use Rattle.promela_process.specs.Control.{Descent, Position, Todo, Control, steps, basic_at, sequence_at, beyond, behind, at, into_arm, todos, settle}
 use Rattle.pml_control.proofs.Words.{basic_of, behind_of}
 use Rattle.pml_control.proofs.Positions.{stands, entered}
 use Rattle.pml_control.proofs.Reaching.{IsAt, first_of}
@@ -14,7 +14,7 @@ use Rattle.pml_flow.proofs.Beginning.{enters}
 
 -- the statement x stands at p, before c
 pub record StandsAt (bs : List Stmt) (p : Position) (x : Basic) (c : Control) : Type 0 where
-  pub there : basic_at (sequence bs p.0) p.1 ≡ Some x
+  pub there : basic_at (sequence_at bs p.0) p.1 ≡ Some x
   pub next : at bs (p.0, p.1 + 1) ≡ c
 
 tail_same : (p q : Position) (x y : Basic) (c d : Control) → Todo p x ∷ c ≡ Todo q y ∷ d → (p ≡ q) × (x ≡ y) × (c ≡ d)
@@ -22,15 +22,15 @@ tail_same p q x y c d h = (cc, cc, cc)
 
 module _ (bs : List Stmt) where
   -- what stands first among the rest of a sequence, or behind it
-  begun_by : (q : List Descent) (i : ℕ) (ss : List Stmt) (p : Position) (x : Basic) (c : Control) → drop i (sequence bs q) ≡ ss → ((p : Position) (x : Basic) (c : Control) → beyond bs q ≡ Todo p x ∷ c → StandsAt bs p x c) → todos q i ss (beyond bs q) ≡ Todo p x ∷ c → StandsAt bs p x c
+  begun_by : (q : List Descent) (i : ℕ) (ss : List Stmt) (p : Position) (x : Basic) (c : Control) → drop i (sequence_at bs q) ≡ ss → ((p : Position) (x : Basic) (c : Control) → beyond bs q ≡ Todo p x ∷ c → StandsAt bs p x c) → todos q i ss (beyond bs q) ≡ Todo p x ∷ c → StandsAt bs p x c
   begun_by q i [] p x c e rest h = rest p x c h
   begun_by q i (s ∷ ss) p x c e rest h =
       let k = tail_same (q, i) p s.basic x (todos q (i + 1) ss (beyond bs q)) c h in
-      let f : basic_at (sequence bs q) i ≡ Some s.basic = ap basic_of (first_of (sequence bs q) i s ss e) in
+      let f : basic_at (sequence_at bs q) i ≡ Some s.basic = ap basic_of (first_of (sequence_at bs q) i s ss e) in
       let g = stands bs q i s.basic f in
       let z = tail_same (q, i) p s.basic x (at bs (q, i + 1)) c (sym g ∙ ap (λ xs. todos q i xs (beyond bs q)) e ∙ h) in
       record {
-        there = ap (λ (r : Position). basic_at (sequence bs r.0) r.1) (sym k.0) ∙ f ∙ ap Some k.1;
+        there = ap (λ (r : Position). basic_at (sequence_at bs r.0) r.1) (sym k.0) ∙ f ∙ ap Some k.1;
         next = ap (λ (r : Position). at bs (r.0, r.1 + 1)) (sym k.0) ∙ z.2;
       }
 
@@ -53,11 +53,11 @@ module _ (bs : List Stmt) where
   begun_beyond : (q : List Descent) (p : Position) (x : Basic) (c : Control) → beyond bs q ≡ Todo p x ∷ c → StandsAt bs p x c
   begun_beyond [] p x c h = cc
   begun_beyond (t ∷ q) p x c h =
-      begun_behind (q, t.0) (slice_get (sequence bs q) t.0) t.1 (todos q (t.0 + 1) (drop (t.0 + 1) (sequence bs q)) (beyond bs q)) p x c
-      (λ r y d e. begun_by q (t.0 + 1) (drop (t.0 + 1) (sequence bs q)) r y d refl (begun_beyond q) e) h
+      begun_behind (q, t.0) (slice_get (sequence_at bs q) t.0) t.1 (todos q (t.0 + 1) (drop (t.0 + 1) (sequence_at bs q)) (beyond bs q)) p x c
+      (λ r y d e. begun_by q (t.0 + 1) (drop (t.0 + 1) (sequence_at bs q)) r y d refl (begun_beyond q) e) h
 
   pub begun_there : (p : Position) (x : Basic) (c : Control) → IsAt bs (Todo p x ∷ c) → StandsAt bs p x c
-  begun_there p x c i = begun_by i.position.0 i.position.1 (drop i.position.1 (sequence bs i.position.0)) p x c refl (begun_beyond i.position.0) i.is
+  begun_there p x c i = begun_by i.position.0 i.position.1 (drop i.position.1 (sequence_at bs i.position.0)) p x c refl (begun_beyond i.position.0) i.is
 
   abbrev pub Placed_at : Control → Type 0
   Placed_at c = at bs (first_position c) ≡ c
@@ -69,7 +69,7 @@ module _ (bs : List Stmt) where
 -- the first point inside
 pub entered_is : (b : Seq) (p : Position) (x : Basic) (c : Control) → StandsAt (steps b) p x c → maybe (settle b) (enters p x c) ≡ entry_of b p (Some x)
 entered_is b p (DStep s) c h =
-    ap (λ d. Some (settle b (into p (DStep s) 0 d))) (sym h.next)
+    ap (λ d. Some (settle b (into_arm p (DStep s) 0 d))) (sym h.next)
     ∙ ap (λ d. Some (settle b d)) (sym (entered (steps b) p.0 p.1 0 (DStep s) h.there))
 entered_is b p (Plain a) c h = refl
 entered_is b p (Goto l) c h = refl

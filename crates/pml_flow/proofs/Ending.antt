@@ -4,7 +4,7 @@ use Rattle.std.specs.Prelude.{slice_get, slice_index_or, slice_set, nat_lt}
 use Rattle.std.proofs.lemmas.Bool.Decides.{nat_tests}
 use Rattle.pml_program.specs.declared.program.Stmt.{Stmt}
 use Rattle.pml_program.specs.declared.program.Seq.{Seq}
-use Rattle.promela_process.specs.Control.{Control, Todo, Back, Under, InAtomic, InDStep, at, settle, steps, sequence, basic_at}
+use Rattle.promela_process.specs.Control.{Control, Todo, Back, Under, InAtomic, InDStep, at, settle, steps, sequence_at, basic_at}
 use Rattle.pml_control.proofs.Words.{basic_of}
 use Rattle.pml_control.specs.Told.{told_of}
 use Rattle.pml_control.proofs.Reaching.{IsAt, all_at-get, at_arm, zero_plus, plus_zero, plus_one}
@@ -220,7 +220,7 @@ module _ (b : Seq) (ts : List ℕ) (long : length ts ≡ length (told_of b)) (ta
       by_statement : (o : Option Stmt) → statement_at b p ≡ o → has_end o ≡ true → is_end_at es n ≡ true
       by_statement None g f = cc
       by_statement (Some s) g f =
-          let a : basic_at (sequence (steps b) p.0) p.1 ≡ Some s.basic = ap basic_of g in
+          let a : basic_at (sequence_at (steps b) p.0) p.1 ≡ Some s.basic = ap basic_of g in
           let k = covered_at b cs whole p s.basic a in
           let l = within cs k.post (at (steps b) p) k.is in
           let t = got ts k.post (omega (arith, l, long)) in

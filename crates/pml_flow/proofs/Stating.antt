@@ -5,7 +5,7 @@ use Rattle.std.proofs.lemmas.List.{drop_more}
 use Rattle.pml_program.specs.declared.program.Stmt.{Stmt}
 use Rattle.pml_program.specs.declared.program.Seq.{Seq, Seq', out-Seq, Row_of-Stmt, end_of-Stmt, more_of-Stmt, items-the_row-Stmt}
 use Rattle.pml_program.specs.declared.program.Basic.{Basic, Plain, Goto, Break, If, If', Do, Do', Block, Atomic, DStep, Unless, Row_of-Seq, end_of-Seq, more_of-Seq, items-the_row-Seq, items_hidden-the_row-Seq-0}
-use Rattle.promela_process.specs.Control.{Descent, Position, Todo, Back, Under, InAtomic, InDStep, Control, steps, basic_at, sequence, descent, todos}
+use Rattle.promela_process.specs.Control.{Descent, Position, Todo, Back, Under, InAtomic, InDStep, Control, steps, basic_at, sequence_at, descent, todos}
 use Rattle.pml_control.proofs.Words.{steps_of, basic_of}
 use Rattle.pml_control.specs.Told.{told_in, told_arm, told_row, told_options, told_of}
 use Rattle.pml_control.proofs.Positions.{arm_there}
@@ -33,11 +33,11 @@ module _ (b : Seq) where
   closed xs os p x c own h k = both xs ((Todo p x ∷ c) ∷ []) os (Some own ∷ []) k (ap (λ o. o ∷ []) (sym h))
 
   -- what stands first among the rest of a sequence
-  next_of : (q : List Descent) (i : ℕ) (ss : List Stmt) (c : Control) (next : Option Stmt) → drop i (sequence bs q) ≡ ss → next ≡ st c → first_or next ss ≡ st (todos q i ss c)
+  next_of : (q : List Descent) (i : ℕ) (ss : List Stmt) (c : Control) (next : Option Stmt) → drop i (sequence_at bs q) ≡ ss → next ≡ st c → first_or next ss ≡ st (todos q i ss c)
   next_of q i [] c next h e = e
-  next_of q i (s ∷ ss) c next h e = sym (first_of (sequence bs q) i s ss h)
+  next_of q i (s ∷ ss) c next h e = sym (first_of (sequence_at bs q) i s ss h)
 
-  there : (p : Position) (own : Stmt) → statement_at b p ≡ Some own → basic_at (sequence bs p.0) p.1 ≡ Some own.basic
+  there : (p : Position) (own : Stmt) → statement_at b p ≡ Some own → basic_at (sequence_at bs p.0) p.1 ≡ Some own.basic
   there p own h = ap basic_of h
 
   mutual
@@ -47,11 +47,11 @@ module _ (b : Seq) where
     stated_in p c Break own next h k e = closed [] [] p Break c own h refl
     stated_in p c (If' m row) own next h k e =
         closed (told_options p 0 c row) (inner_options next row) p (If' m row) c own h
-        (stated_options p 0 c row next (λ j n f. ap (λ k. sequence bs (descent p k)) (f ∙ zero_plus j) ∙ arm_there bs p.0 p.1 j (If' m row) (there p own h ∙ ap Some k)) e)
+        (stated_options p 0 c row next (λ j n f. ap (λ k. sequence_at bs (descent p k)) (f ∙ zero_plus j) ∙ arm_there bs p.0 p.1 j (If' m row) (there p own h ∙ ap Some k)) e)
     stated_in p c (Do' m row) own next h k e =
         let xs : List Control = told_options p 0 (Back p (Do' m row) ∷ c) row in
         ap (λ o. o ∷ (inner_options None row ++ Some own ∷ [])) (sym h)
-        ∙ ap (λ r. statement_at b p ∷ r) (closed xs (inner_options None row) p (Do' m row) c own h (stated_options p 0 (Back p (Do' m row) ∷ c) row None (λ j n f. ap (λ k. sequence bs (descent p k)) (f ∙ zero_plus j) ∙ arm_there bs p.0 p.1 j (Do' m row) (there p own h ∙ ap Some k)) refl))
+        ∙ ap (λ r. statement_at b p ∷ r) (closed xs (inner_options None row) p (Do' m row) c own h (stated_options p 0 (Back p (Do' m row) ∷ c) row None (λ j n f. ap (λ k. sequence_at bs (descent p k)) (f ∙ zero_plus j) ∙ arm_there bs p.0 p.1 j (Do' m row) (there p own h ∙ ap Some k)) refl))
     stated_in p c (Block s) own next h k e =
         closed (told_arm (descent p 0) c s) (inner_arm next s) p (Block s) c own h (stated_arm (descent p 0) c s next (arm_there bs p.0 p.1 0 (Block s) (there p own h ∙ ap Some k)) e)
     stated_in p c (Atomic s) own next h k e =
@@ -66,21 +66,21 @@ module _ (b : Seq) where
         (stated_arm (descent p 1) c u next (arm_there bs p.0 p.1 1 (Unless s u) (there p own h ∙ ap Some k)) e)
         (closed ys (inner_arm None s) p (Unless s u) c own h (stated_arm (descent p 0) (Under p u ∷ c) s None (arm_there bs p.0 p.1 0 (Unless s u) (there p own h ∙ ap Some k)) refl))
 
-    stated_arm : (q : List Descent) (c : Control) (s : Seq) (next : Option Stmt) → sequence bs q ≡ steps s → next ≡ st c → inner_arm next s ≡ map st (told_arm q c s)
+    stated_arm : (q : List Descent) (c : Control) (s : Seq) (next : Option Stmt) → sequence_at bs q ≡ steps s → next ≡ st c → inner_arm next s ≡ map st (told_arm q c s)
     stated_arm q c (Seq' m row) next h e =
         ap (λ o. o ∷ inner_row next row) e ∙ ap (λ r. st c ∷ r) (stated_row q 0 c row next h e)
 
-    stated_row : {n : _} (q : List Descent) (i : ℕ) (c : Control) (row : Row_of-Stmt n) (next : Option Stmt) → drop i (sequence bs q) ≡ items-the_row-Stmt _ row → next ≡ st c → inner_row next row ≡ map st (told_row q i c row)
+    stated_row : {n : _} (q : List Descent) (i : ℕ) (c : Control) (row : Row_of-Stmt n) (next : Option Stmt) → drop i (sequence_at bs q) ≡ items-the_row-Stmt _ row → next ≡ st c → inner_row next row ≡ map st (told_row q i c row)
     stated_row q i c end_of-Stmt next h e = refl
     stated_row q i c (more_of-Stmt ls s ts rest) next h e =
         let own : Stmt = record { labels = ls; basic = s; tokens = ts } in
         let k : Control = todos q (i + 1) (items-the_row-Stmt _ rest) c in
-        let r = rest_of (sequence bs q) i own (items-the_row-Stmt _ rest) h in
+        let r = rest_of (sequence_at bs q) i own (items-the_row-Stmt _ rest) h in
         both (told_row q (i + 1) c rest) (told_in (q, i) k s) (inner_row next rest) (inner_in (first_or next (items-the_row-Stmt _ rest)) own s ++ Some own ∷ [])
         (stated_row q (i + 1) c rest next r e)
-        (stated_in (q, i) k s own (first_or next (items-the_row-Stmt _ rest)) (first_of (sequence bs q) i own (items-the_row-Stmt _ rest) h) refl (next_of q (i + 1) (items-the_row-Stmt _ rest) c next r e))
+        (stated_in (q, i) k s own (first_or next (items-the_row-Stmt _ rest)) (first_of (sequence_at bs q) i own (items-the_row-Stmt _ rest) h) refl (next_of q (i + 1) (items-the_row-Stmt _ rest) c next r e))
 
-    stated_options : {n : _} (p : Position) (k : ℕ) (c : Control) (row : Row_of-Seq n) (next : Option Stmt) → ((j n : ℕ) → n ≡ k + j → sequence bs (descent p n) ≡ steps_of (slice_get (items-the_row-Seq _ row) j)) → next ≡ st c → inner_options next row ≡ map st (told_options p k c row)
+    stated_options : {n : _} (p : Position) (k : ℕ) (c : Control) (row : Row_of-Seq n) (next : Option Stmt) → ((j n : ℕ) → n ≡ k + j → sequence_at bs (descent p n) ≡ steps_of (slice_get (items-the_row-Seq _ row) j)) → next ≡ st c → inner_options next row ≡ map st (told_options p k c row)
     stated_options p k c end_of-Seq next h e = refl
     stated_options p k c (more_of-Seq s rest) next h e =
         both (told_options p (k + 1) c rest) (told_arm (descent p k) c s) (inner_options next rest) (inner_arm next s)

@@ -60,7 +60,7 @@ fn add_number(text: &mut Vec<u8>, number: u32) -> Result<(), AllocError>
 
 /// Appends tokens, joined by one space.
 fn add_tokens(text: &mut Vec<u8>, tokens: &[Token<'_>]) -> Result<(), AllocError>
-    ensures added { OnOk result (text.new.items ≡ text.old.items ++ flow.joined tokens.now) }
+    ensures added { OnOk result (text.new.items ≡ text.old.items ++ flow.joined_by_spaces tokens.now) }
     ensures kept { OnErr result (StartsWith text.new.items text.old.items) }
 {
     let [first, rest @ ..] = tokens else {
@@ -80,7 +80,7 @@ pub fn add_action(
     basic: &Basic<'_>,
     tokens: &[Token<'_>],
 ) -> Result<(), AllocError>
-    ensures added { OnOk result (text.new.items ≡ text.old.items ++ flow.action basic.now tokens.now) }
+    ensures added { OnOk result (text.new.items ≡ text.old.items ++ flow.statement_text basic.now tokens.now) }
     ensures kept { OnErr result (StartsWith text.new.items text.old.items) }
 {
     match basic {

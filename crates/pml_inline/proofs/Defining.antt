@@ -4,7 +4,7 @@ use Rattle.std.specs.Prelude.{option_and_then}
 use Rattle.std.proofs.lemmas.List.{drop-drop, drop_all, get_or_past, drop-map, take-map, take_rest}
 use Rattle.pml_token.specs.declared.token.Kind.TheVariants.{Name, OpenParen, OpenBrace, CloseBrace}
 use Rattle.pml_token.specs.Word.{same_kind, Word}
-use Rattle.promela_text.specs.Inlines.{has_inline, closing, Inline, parameters, listed, with_end, with_body, definition, all_differ}
+use Rattle.promela_text.specs.Inlines.{has_inline, closing, Inline, parameter_names, listed, with_end, with_body, definition, all_differ}
 use Rattle.pml_inline.proofs.Words.{with_parameters}
 use Rattle.pml_inline.specs.Places.{no_word, word_at, words_of}
 use Rattle.pml_inline.proofs.Lists.{begins_at, definition_is}
@@ -21,7 +21,7 @@ module _ (ts : List Word) (from : ℕ) where
   opened = same_kind (word_at ts (from + 1)).kind OpenParen
 
   abbrev with_all : Option Inline
-  with_all = with_parameters (word_at ts from).text (drop (from + 2) ts) (parameters (drop (from + 2) ts))
+  with_all = with_parameters (word_at ts from).text (drop (from + 2) ts) (parameter_names (drop (from + 2) ts))
 
   pub no_name : named ≡ false → definition (drop from ts) ≡ None
   no_name e = definition_is ts from ∙ ap (λ (b : Bool). cond (b && opened) with_all None) e
@@ -35,10 +35,10 @@ module _ (ts : List Word) (from : ℕ) where
   both : named ≡ true → opened ≡ true → definition (drop from ts) ≡ with_all
   both e f = definition_is ts from ∙ ap (λ (b : Bool). cond (b && opened) with_all None) e ∙ ap (λ (b : Bool). cond b with_all None) f
 
-  pub no_list : named ≡ true → opened ≡ true → parameters (drop (from + 2) ts) ≡ None → definition (drop from ts) ≡ None
+  pub no_list : named ≡ true → opened ≡ true → parameter_names (drop (from + 2) ts) ≡ None → definition (drop from ts) ≡ None
   no_list e f g = both e f ∙ ap (with_parameters (word_at ts from).text (drop (from + 2) ts)) g
 
-module _ (ts : List Word) (from start : ℕ) (ps : List (List ℕ)) (e : same_kind (word_at ts from).kind Name ≡ true) (f : same_kind (word_at ts (from + 1)).kind OpenParen ≡ true) (g : parameters (drop (from + 2) ts) ≡ Some ps) (is : start ≡ from + 2 + listed ps) where
+module _ (ts : List Word) (from start : ℕ) (ps : List (List ℕ)) (e : same_kind (word_at ts from).kind Name ≡ true) (f : same_kind (word_at ts (from + 1)).kind OpenParen ≡ true) (g : parameter_names (drop (from + 2) ts) ≡ Some ps) (is : start ≡ from + 2 + listed ps) where
   abbrev name : List ℕ
   name = (word_at ts from).text
 

@@ -3,7 +3,7 @@ use Rattle.std.proofs.Common.{◌≡◌, ℕ, ◌+◌, ◌<◌, ◌≤◌, Bool,
 use Rattle.std.proofs.lemmas.Bool.{lt-leb, le-leb}
 use Rattle.pml_token.specs.Word.{Word}
 use Rattle.profile.specs.declared.TheConstants.{MOST_REPLACED}
-use Rattle.promela_text.specs.Inlines.{Given, join, itself, limited}
+use Rattle.promela_text.specs.Inlines.{Given, join_given, itself, limited}
 use Rattle.pml_inline.proofs.Words.{nothing}
 use Rattle.pml_inline.specs.Texts.{IsPast}
 
@@ -17,35 +17,35 @@ count_of (Some g) = g.count
 same : (ts us : List Word) (m n : ℕ) → ts ≡ us → m ≡ n → Some (given ts m) ≡ Some (given us n)
 same ts us m n e f = ap (λ (x : List Word). Some (given x m)) e ∙ ap (λ (k : ℕ). Some (given us k)) f
 
-pub join-assoc : (a b c : Option Given) → join (join a b) c ≡ join a (join b c)
+pub join-assoc : (a b c : Option Given) → join_given (join_given a b) c ≡ join_given a (join_given b c)
 join-assoc None b c = refl
 join-assoc (Some a) None c = refl
 join-assoc (Some a) (Some b) None = refl
 join-assoc (Some a) (Some b) (Some c) = same (a.tokens ++ b.tokens ++ c.tokens) (a.tokens ++ (b.tokens ++ c.tokens)) (a.count + b.count + c.count) (a.count + (b.count + c.count)) (append_assoc a.tokens b.tokens c.tokens) (omega arith)
 
-pub join-nothing : (a : Option Given) → join a nothing ≡ a
+pub join-nothing : (a : Option Given) → join_given a nothing ≡ a
 join-nothing None = refl
 join-nothing (Some a) = same (a.tokens ++ []) a.tokens (a.count + 0) a.count (append-nil a.tokens) (omega arith)
 
-pub nothing-join : (a : Option Given) → join nothing a ≡ a
+pub nothing-join : (a : Option Given) → join_given nothing a ≡ a
 nothing-join None = refl
 nothing-join (Some a) = same a.tokens a.tokens (0 + a.count) a.count refl (omega arith)
 
-pub join-none : (a : Option Given) → join a None ≡ None
+pub join-none : (a : Option Given) → join_given a None ≡ None
 join-none None = refl
 join-none (Some a) = refl
 
 -- a token more
-pub join-itself : (ts us : List Word) (n : ℕ) (w : Word) (r : Option Given) → us ≡ ts ++ w ∷ [] → join (Some (record { tokens = us; count = n })) r ≡ join (Some (record { tokens = ts; count = n })) (join (itself w) r)
+pub join-itself : (ts us : List Word) (n : ℕ) (w : Word) (r : Option Given) → us ≡ ts ++ w ∷ [] → join_given (Some (record { tokens = us; count = n })) r ≡ join_given (Some (record { tokens = ts; count = n })) (join_given (itself w) r)
 join-itself ts us n w r e =
-    ap (λ (g : Option Given). join g r) (same us (ts ++ w ∷ []) n (n + 0) e (omega arith)) ∙ join-assoc (Some (given ts n)) (itself w) r
+    ap (λ (g : Option Given). join_given g r) (same us (ts ++ w ∷ []) n (n + 0) e (omega arith)) ∙ join-assoc (Some (given ts n)) (itself w) r
 
 -- a replacement more
-pub join-counted : (ts : List Word) (n k : ℕ) (r : Option Given) → join (Some (record { tokens = ts; count = n })) (join (Some (record { tokens = []; count = k })) r) ≡ join (Some (record { tokens = ts; count = n + k })) r
-join-counted ts n k r = sym (join-assoc (Some (given ts n)) (Some (given [] k)) r) ∙ ap (λ (g : Option Given). join g r) (same (ts ++ []) ts (n + k) (n + k) (append-nil ts) refl)
+pub join-counted : (ts : List Word) (n k : ℕ) (r : Option Given) → join_given (Some (record { tokens = ts; count = n })) (join_given (Some (record { tokens = []; count = k })) r) ≡ join_given (Some (record { tokens = ts; count = n + k })) r
+join-counted ts n k r = sym (join-assoc (Some (given ts n)) (Some (given [] k)) r) ∙ ap (λ (g : Option Given). join_given g r) (same (ts ++ []) ts (n + k) (n + k) (append-nil ts) refl)
 
 -- what comes out first counts
-pub past-more : (a b : Option Given) → IsPast a → IsPast (join a b)
+pub past-more : (a b : Option Given) → IsPast a → IsPast (join_given a b)
 past-more None b p g e = absurd cc
 past-more (Some a) None p g e = absurd cc
 past-more (Some a) (Some b) p g e =
@@ -53,17 +53,17 @@ past-more (Some a) (Some b) p g e =
     let h : a.count + b.count ≡ g.count = ap count_of e in
     omega arith
 
-pub past-of : (before : Given) (r s : Option Given) (most : ℕ) → before.count + most ≡ MOST_REPLACED → ((g : Given) → r ≡ Some g → most < g.count) → IsPast (join (Some before) (join r s))
-past-of before r s most e p = subst (λ (x : Option Given). IsPast x) (join-assoc (Some before) r s) (past-more (join (Some before) r) s (by_option r refl))
+pub past-of : (before : Given) (r s : Option Given) (most : ℕ) → before.count + most ≡ MOST_REPLACED → ((g : Given) → r ≡ Some g → most < g.count) → IsPast (join_given (Some before) (join_given r s))
+past-of before r s most e p = subst (λ (x : Option Given). IsPast x) (join-assoc (Some before) r s) (past-more (join_given (Some before) r) s (by_option r refl))
   where
-    by_option : (o : Option Given) → r ≡ o → IsPast (join (Some before) r)
-    by_option None is g f = absurd (none g (ap (join (Some before)) (sym is) ∙ f))
+    by_option : (o : Option Given) → r ≡ o → IsPast (join_given (Some before) r)
+    by_option None is g f = absurd (none g (ap (join_given (Some before)) (sym is) ∙ f))
       where
-        none : (g : Given) → join (Some before) None ≡ Some g → ⊥
+        none : (g : Given) → join_given (Some before) None ≡ Some g → ⊥
         none g h = cc
     by_option (Some x) is g f =
         let lt = p x is in
-        let h : Some (record { tokens = before.tokens ++ x.tokens; count = before.count + x.count }) ≡ Some g = ap (join (Some before)) (sym is) ∙ f in
+        let h : Some (record { tokens = before.tokens ++ x.tokens; count = before.count + x.count }) ≡ Some g = ap (join_given (Some before)) (sym is) ∙ f in
         let c : before.count + x.count ≡ g.count = ap count_of h in
         omega arith
 

@@ -7,7 +7,7 @@ use Rattle.std.proofs.lemmas.List.Elements.{All-nil, All-cons, All-head, All-tai
 use Rattle.pml_token.specs.declared.token.Kind.TheVariants.{OpenParen, CloseParen, OpenBrace, CloseBrace, Comma}
 use Rattle.pml_token.specs.Word.{same_kind, Word}
 use Rattle.profile.specs.declared.TheConstants.{MOST_CALLS, MOST_REPLACED}
-use Rattle.promela_text.specs.Inlines.{is_name, is_inline, has_inline, begins, closing, part_turn, parts, arguments, level_behind, Inline, is_among, parameters, listed, with_end, definition, definition_turn, definitions, all_differ, Given, join, itself, parameter, instead, replaced, fits, callee, turn, reading, where_right, calling, braces_behind, outermost, defined, text_turn, texts, limited, expansion, Expands}
+use Rattle.promela_text.specs.Inlines.{is_name, is_inline, has_inline, begins_as, closing, part_turn, parts, arguments, level_behind, Inline, is_among, parameter_names, listed, with_end, definition, definition_turn, definitions, all_differ, Given, join_given, itself, parameter, instead, replaced, fits, callee, turn, reading, where_right, calling, braces_behind, outermost_call, defined, text_turn, texts, limited, expansion, Expands}
 use Rattle.pml_inline.proofs.Words.{by_definitions, enclosed, with_parameters, counted}
 
 module _ (P : Word → Type 0) where
@@ -27,7 +27,7 @@ module _ (P : Word → Type 0) where
   abbrev OfParts : List (List Word) → Type 0
   OfParts ps = All Of ps
 
-  joined : (a b : Option Given) → OfGiven a → OfGiven b → OfGiven (join a b)
+  joined : (a b : Option Given) → OfGiven a → OfGiven b → OfGiven (join_given a b)
   joined None b x y = tt
   joined (Some a) None x y = tt
   joined (Some a) (Some b) x y = All-append P a.tokens b.tokens x y
@@ -45,7 +45,7 @@ module _ (P : Word → Type 0) where
 
   called : (known : List Inline) (w : Word) (ws : List Word) (d : Inline) → OfBodies known → callee known w ws ≡ Some d → OfBody d
   unfolding callee
-  called known w ws d h e = by_test (is_name w && begins OpenParen ws) e
+  called known w ws d h e = by_test (is_name w && begins_as OpenParen ws) e
     where
       by_test : (b : Bool) → cond b (find (λ d. bytes_eq w.text d.name) known) None ≡ Some d → OfBody d
       by_test true f = found known w.text d h f
@@ -109,11 +109,11 @@ module _ (P : Word → Type 0) where
   through [] known ds b n h k d = All-nil P
   through (w ∷ ws) known ds b n h k d = by_turn n (is_inline w) (callee known w ws) refl (λ ks es c m x y. through ws ks es c m (All-tail P w ws h) x y)
     where
-      by_closing : (c : Inline) (o : Option ℕ) → OfBody c → ((ks es : List Inline) (c m : ℕ) → OfBodies ks → OfBodies es → OfGiven (texts ws ks es c m)) → OfGiven (outermost (calling known MOST_CALLS [] c) ws (texts ws known ds b) o)
+      by_closing : (c : Inline) (o : Option ℕ) → OfBody c → ((ks es : List Inline) (c m : ℕ) → OfBodies ks → OfBodies es → OfGiven (texts ws ks es c m)) → OfGiven (outermost_call (calling known MOST_CALLS [] c) ws (texts ws known ds b) o)
       by_closing c None x g = tt
       by_closing c (Some m) x g = by_test (has_inline (take m (drop 1 ws)))
         where
-          by_test : (t : Bool) → OfGiven (cond t None (join (calling known MOST_CALLS [] c (take m (drop 1 ws))) (texts ws known ds b (m + 2))))
+          by_test : (t : Bool) → OfGiven (cond t None (join_given (calling known MOST_CALLS [] c (take m (drop 1 ws))) (texts ws known ds b (m + 2))))
           by_test true = tt
           by_test false = joined (calling known MOST_CALLS [] c (take m (drop 1 ws))) (texts ws known ds b (m + 2)) (made known k MOST_CALLS [] c (take m (drop 1 ws)) x (All-take P m (drop 1 ws) (All-drop P 1 ws (All-tail P w ws h)))) (g known ds b (m + 2) k d)
 
@@ -153,13 +153,13 @@ module _ (P : Word → Type 0) where
   listed_so : (n : List ℕ) (ts : List Word) (o : Option (List (List ℕ))) → Of ts → OfDefinition (with_parameters n ts o)
   listed_so n ts None h = tt
   listed_so n ts (Some ps) h =
-      if_so (begins OpenBrace (drop (listed ps) ts)) (option_and_then (with_end n ps (drop (listed ps) ts)) (closing OpenBrace CloseBrace (drop 1 (drop (listed ps) ts)) 0))
+      if_so (begins_as OpenBrace (drop (listed ps) ts)) (option_and_then (with_end n ps (drop (listed ps) ts)) (closing OpenBrace CloseBrace (drop 1 (drop (listed ps) ts)) 0))
       (ended n ps (drop (listed ps) ts) (closing OpenBrace CloseBrace (drop 1 (drop (listed ps) ts)) 0) (All-drop P (listed ps) ts h))
 
   one_of : (ws : List Word) → Of ws → OfDefinition (definition ws)
   unfolding definition
   one_of [] h = tt
-  one_of (w ∷ ws) h = if_so (is_name w && begins OpenParen ws) (with_parameters w.text (drop 1 ws) (parameters (drop 1 ws))) (listed_so w.text (drop 1 ws) (parameters (drop 1 ws)) (All-drop P 1 ws (All-tail P w ws h)))
+  one_of (w ∷ ws) h = if_so (is_name w && begins_as OpenParen ws) (with_parameters w.text (drop 1 ws) (parameter_names (drop 1 ws))) (listed_so w.text (drop 1 ws) (parameter_names (drop 1 ws)) (All-drop P 1 ws (All-tail P w ws h)))
 
   and_one : (d : Inline) (o : Option (List Inline)) → OfBody d → OfList o → OfList (option_map (λ ds. d ∷ ds) o)
   and_one d None b h = tt

@@ -9,7 +9,7 @@ use denote.Enum.Bare.{same_true}
 use Rattle.pml_token.specs.contracts.token.Kind.{the_type}
 use Rattle.pml_token.specs.declared.token.Kind.TheVariants.{Name, Inline as InlineWord, OpenParen, CloseParen, Comma, End}
 use Rattle.pml_token.specs.Word.{same_kind, Word}
-use Rattle.promela_text.specs.Inlines.{is_inline, has_inline, is_name, begins, to_closing, closing, level_behind, part_turn, parts, Inline, names, parameters, definition, definition_turn, definitions}
+use Rattle.promela_text.specs.Inlines.{is_inline, has_inline, is_name, begins_as, to_closing, closing, level_behind, part_turn, parts, Inline, names, parameter_names, definition, definition_turn, definitions}
 use Rattle.pml_inline.proofs.Words.{define, with_parameters}
 use Rattle.pml_inline.specs.Places.{no_word, word_at, words_of, places_from}
 use Rattle.std.specs.Borrow.{Bor}
@@ -242,10 +242,10 @@ after-no_inlines (Some ds) = refl
 pub word_rest : (ts : List Word) (at : ℕ) → at < length ts → drop at ts ≡ word_at ts at ∷ drop (at + 1) ts
 word_rest ts at h = drop_more ts at no_word h
 
-pub begins_at : (k : Kind) (ts : List Word) (at : ℕ) → same_kind End k ≡ false → begins k (drop at ts) ≡ same_kind (word_at ts at).kind k
+pub begins_at : (k : Kind) (ts : List Word) (at : ℕ) → same_kind End k ≡ false → begins_as k (drop at ts) ≡ same_kind (word_at ts at).kind k
 begins_at k ts at e = ⊎_elim
-    (λ (lt : at < length ts). ap (begins k) (word_rest ts at lt))
-    (λ (le : length ts ≤ at). ap (begins k) (drop_all at ts le) ∙ sym e ∙ ap (λ (w : Word). same_kind w.kind k) (sym (get_or_past ts at no_word le)))
+    (λ (lt : at < length ts). ap (begins_as k) (word_rest ts at lt))
+    (λ (le : length ts ≤ at). ap (begins_as k) (drop_all at ts le) ∙ sym e ∙ ap (λ (w : Word). same_kind w.kind k) (sym (get_or_past ts at no_word le)))
     (cases_lt at (length ts))
 
 abbrev pub names_by : Word → Word → Option (List (List ℕ)) → Option (List (List ℕ))
@@ -299,19 +299,19 @@ definitions_end ts at cs h = ap (λ (ws : List Word). after_inlines cs (definiti
 
 -- the definition at a place, part by part
 pub definition_is : (ts : List Word) (from : ℕ)
-    → definition (drop from ts) ≡ cond (same_kind (word_at ts from).kind Name && same_kind (word_at ts (from + 1)).kind OpenParen) (with_parameters (word_at ts from).text (drop (from + 2) ts) (parameters (drop (from + 2) ts))) None
+    → definition (drop from ts) ≡ cond (same_kind (word_at ts from).kind Name && same_kind (word_at ts (from + 1)).kind OpenParen) (with_parameters (word_at ts from).text (drop (from + 2) ts) (parameter_names (drop (from + 2) ts))) None
 unfolding definition
 definition_is ts from = ⊎_elim
     (λ (lt : from < length ts).
     let n : from + 1 + 1 ≡ from + 2 = omega arith in
     let two : drop 1 (drop (from + 1) ts) ≡ drop (from + 2) ts = drop-drop 1 (from + 1) ts ∙ ap (λ (m : ℕ). drop m ts) n in
     ap definition (word_rest ts from lt)
-    ∙ ap (λ (b : Bool). cond (same_kind (word_at ts from).kind Name && b) (with_parameters (word_at ts from).text (drop 1 (drop (from + 1) ts)) (parameters (drop 1 (drop (from + 1) ts)))) None) (begins_at OpenParen ts (from + 1) refl)
-    ∙ ap (λ (ws : List Word). cond (same_kind (word_at ts from).kind Name && same_kind (word_at ts (from + 1)).kind OpenParen) (with_parameters (word_at ts from).text ws (parameters ws)) None) two)
+    ∙ ap (λ (b : Bool). cond (same_kind (word_at ts from).kind Name && b) (with_parameters (word_at ts from).text (drop 1 (drop (from + 1) ts)) (parameter_names (drop 1 (drop (from + 1) ts)))) None) (begins_at OpenParen ts (from + 1) refl)
+    ∙ ap (λ (ws : List Word). cond (same_kind (word_at ts from).kind Name && same_kind (word_at ts (from + 1)).kind OpenParen) (with_parameters (word_at ts from).text ws (parameter_names ws)) None) two)
     (λ (le : length ts ≤ from).
     let none : word_at ts from ≡ no_word = get_or_past ts from no_word le in
     ap definition (drop_all from ts le)
-    ∙ ap (λ (w : Word). cond (same_kind w.kind Name && same_kind (word_at ts (from + 1)).kind OpenParen) (with_parameters (word_at ts from).text (drop (from + 2) ts) (parameters (drop (from + 2) ts))) None) (sym none))
+    ∙ ap (λ (w : Word). cond (same_kind w.kind Name && same_kind (word_at ts (from + 1)).kind OpenParen) (with_parameters (word_at ts from).text (drop (from + 2) ts) (parameter_names (drop (from + 2) ts))) None) (sym none))
     (cases_lt from (length ts))
 
 -- ---- a call is passed over
@@ -351,7 +351,7 @@ over_closing (w ∷ ws) n k e h = by_turn (same_kind w.kind CloseParen) (same_ki
     by_turn false false n k is e h f = more (closing OpenParen CloseParen ws n) k e h (f n)
 
 -- the definitions behind a call are those behind its name
-pub over_call : (ts : List Word) (at n : ℕ) → at < length ts → is_inline (word_at ts at) ≡ false → begins OpenParen (drop (at + 1) ts) ≡ true → closing OpenParen CloseParen (drop (at + 2) ts) 0 ≡ Some n
+pub over_call : (ts : List Word) (at n : ℕ) → at < length ts → is_inline (word_at ts at) ≡ false → begins_as OpenParen (drop (at + 1) ts) ≡ true → closing OpenParen CloseParen (drop (at + 2) ts) 0 ≡ Some n
     → has_inline (take n (drop (at + 2) ts)) ≡ false → definitions (drop at ts) 0 ≡ definitions (drop (at + 3 + n) ts) 0
 over_call ts at n h i open' e f =
     let k : at + 2 + suc n ≡ at + 3 + n = omega arith in
@@ -360,7 +360,7 @@ over_call ts at n h i open' e f =
     ∙ by_list (drop (at + 1) ts) open' ∙ ap (λ (ws : List Word). definitions ws 0) (drop-drop 1 (at + 1) ts ∙ ap (λ (m : ℕ). drop m ts) two)
     ∙ over_closing (drop (at + 2) ts) 0 n e f ∙ ap (λ (ws : List Word). definitions ws 0) (drop-drop (suc n) (at + 2) ts ∙ ap (λ (m : ℕ). drop m ts) k)
   where
-    by_list : (ws : List Word) → begins OpenParen ws ≡ true → definitions ws 0 ≡ definitions (drop 1 ws) 0
+    by_list : (ws : List Word) → begins_as OpenParen ws ≡ true → definitions ws 0 ≡ definitions (drop 1 ws) 0
     by_list [] e = absurd (false≢true e)
     by_list (w ∷ ws) e = over_token w ws (opener_is w e)
 
@@ -410,6 +410,6 @@ names_step ts at ms h a b c =
     ∙ ap (λ (x : Bool). cond x (option_map (λ ns. (word_at ts at).text ∷ ns) (names (drop (at + 2) ts))) None) c)
     ∙ after-and_name ms (word_at ts at).text (names (drop (at + 2) ts)))
 
-pub no_parameters : (ts : List Word) (from at : ℕ) (ms : List (List ℕ)) → same_kind (word_at ts from).kind CloseParen ≡ false → length ts ≤ at + 1 → after_names ms (names (drop at ts)) ≡ names (drop from ts) → parameters (drop from ts) ≡ None
+pub no_parameters : (ts : List Word) (from at : ℕ) (ms : List (List ℕ)) → same_kind (word_at ts from).kind CloseParen ≡ false → length ts ≤ at + 1 → after_names ms (names (drop at ts)) ≡ names (drop from ts) → parameter_names (drop from ts) ≡ None
 no_parameters ts from at ms e h f =
     ap (λ (b : Bool). cond b (Some []) (names (drop from ts))) (begins_at CloseParen ts from refl ∙ e) ∙ sym f ∙ ap (after_names ms) (names_end ts at h)

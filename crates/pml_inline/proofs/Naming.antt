@@ -9,7 +9,7 @@ use Rattle.std.proofs.lemmas.List.{map-append, take_more, take-append-drop, leng
 use Rattle.std.proofs.lemmas.List.Elements.{All-head, All-tail}
 use Rattle.pml_token.specs.Word.{Word, same_kind}
 use Rattle.pml_token.specs.declared.token.Kind.TheVariants.{OpenParen}
-use Rattle.promela_text.specs.Inlines.{is_name, begins, Inline, is_among, all_differ, place_of, callee}
+use Rattle.promela_text.specs.Inlines.{is_name, begins_as, Inline, is_among, all_differ, place_of, callee}
 use Rattle.pml_inline.specs.Places.{word_at, words_of}
 use Rattle.std.specs.Borrow.{Bor}
 use Rattle.pml_inline.specs.declared.definitions.Definition.{Definition}
@@ -208,9 +208,9 @@ find-known t (d ∷ ds) (suc known) = by_test (bytes_eq t d.name) (find-known t 
     by_test true f = sym (ap (λ (b : Bool). option_inline (d ∷ ds) (cond b (Some 0) None)) (lt-ltb 0 (suc known) (omega arith)))
     by_test false f = f ∙ below-more d ds known (place_of t (map (λ d. d.name) ds))
 
-pub callee-is : (ds : List Inline) (known : ℕ) (w : Word) (ws : List Word) → callee (take known ds) w ws ≡ cond (begins OpenParen ws) (option_inline ds (below known (number_of ds w))) None
+pub callee-is : (ds : List Inline) (known : ℕ) (w : Word) (ws : List Word) → callee (take known ds) w ws ≡ cond (begins_as OpenParen ws) (option_inline ds (below known (number_of ds w))) None
 unfolding callee
-callee-is ds known w ws = by_tests (is_name w) (begins OpenParen ws)
+callee-is ds known w ws = by_tests (is_name w) (begins_as OpenParen ws)
   where
     by_tests : (a b : Bool) → cond (a && b) (find (λ d. bytes_eq w.text d.name) (take known ds)) None ≡ cond b (option_inline ds (below known (cond a (place_of w.text (map (λ d. d.name) ds)) None))) None
     by_tests true true = find-known w.text ds known
@@ -252,21 +252,21 @@ number-at ds [] p = refl
 number-at ds (t ∷ ts) zero = refl
 number-at ds (t ∷ ts) (suc p) = number-at ds ts p
 
-pub begins-behind : (ts : List Word) (ps : List ℕ) (at : ℕ) → at < length ps → begins OpenParen (words_of ts (drop at ps)) ≡ same_kind (word_at ts (get_or ps at 0)).kind OpenParen
-begins-behind ts ps at h = ap (λ (qs : List ℕ). begins OpenParen (words_of ts qs)) (drop_more ps at 0 h)
+pub begins-behind : (ts : List Word) (ps : List ℕ) (at : ℕ) → at < length ps → begins_as OpenParen (words_of ts (drop at ps)) ≡ same_kind (word_at ts (get_or ps at 0)).kind OpenParen
+begins-behind ts ps at h = ap (λ (qs : List ℕ). begins_as OpenParen (words_of ts qs)) (drop_more ps at 0 h)
 
-pub begins-nothing : (ts : List Word) (ps : List ℕ) (at : ℕ) → length ps ≤ at → begins OpenParen (words_of ts (drop at ps)) ≡ false
-begins-nothing ts ps at h = ap (λ (qs : List ℕ). begins OpenParen (words_of ts qs)) (drop_all at ps h)
+pub begins-nothing : (ts : List Word) (ps : List ℕ) (at : ℕ) → length ps ≤ at → begins_as OpenParen (words_of ts (drop at ps)) ≡ false
+begins-nothing ts ps at h = ap (λ (qs : List ℕ). begins_as OpenParen (words_of ts qs)) (drop_all at ps h)
 
 pub within-number : (ds : List Inline) (known length' : ℕ) (w : Word) (o : Option ℕ) → length ds ≡ length' → o ≡ below known (number_of ds w) → IfSome o (λ n. n < length')
 within-number ds known length' w None e f = tt
 within-number ds known length' w (Some n) e f = let lt = number-within ds w n (below-within known (number_of ds w) n (sym f)) in omega arith
 
-pub callee-begins : (known : List Inline) (w : Word) (ws : List Word) (d : Inline) → callee known w ws ≡ Some d → begins OpenParen ws ≡ true
+pub callee-begins : (known : List Inline) (w : Word) (ws : List Word) (d : Inline) → callee known w ws ≡ Some d → begins_as OpenParen ws ≡ true
 unfolding callee
-callee-begins known w ws d e = by_tests (is_name w) (begins OpenParen ws) refl e
+callee-begins known w ws d e = by_tests (is_name w) (begins_as OpenParen ws) refl e
   where
-    by_tests : (a b : Bool) → b ≡ begins OpenParen ws → cond (a && b) (find (λ d. bytes_eq w.text d.name) known) None ≡ Some d → begins OpenParen ws ≡ true
+    by_tests : (a b : Bool) → b ≡ begins_as OpenParen ws → cond (a && b) (find (λ d. bytes_eq w.text d.name) known) None ≡ Some d → begins_as OpenParen ws ≡ true
     by_tests a true is f = sym is
     by_tests true false is f = absurd cc
     by_tests false false is f = absurd cc

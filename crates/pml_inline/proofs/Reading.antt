@@ -6,7 +6,7 @@ use Rattle.std.proofs.lemmas.List.{drop_more, drop_all, drop-map, take-map, drop
 use Rattle.pml_token.specs.declared.token.Kind.TheVariants.{OpenParen, CloseParen}
 use Rattle.pml_token.specs.Word.{Word}
 use Rattle.profile.specs.declared.TheConstants.{MOST_CALLS}
-use Rattle.promela_text.specs.Inlines.{is_inline, has_inline, is_name, closing, Inline, Given, join, itself, callee, turn, reading, calling, braces_behind, outermost, defined, text_turn, texts}
+use Rattle.promela_text.specs.Inlines.{is_inline, has_inline, is_name, closing, Inline, Given, join_given, itself, callee, turn, reading, calling, braces_behind, outermost_call, defined, text_turn, texts}
 use Rattle.pml_inline.proofs.Words.{enclosed, nothing}
 use Rattle.pml_inline.specs.Places.{word_at, words_of}
 use Rattle.pml_inline.proofs.Lists.{closing_front, word_rest}
@@ -35,7 +35,7 @@ module _ (known : List Inline) (call : Inline → List Word → Option Given) (t
   reading_at : reading known call (words_of ts (drop at ps)) 0 ≡ turn call 0 (callee known here behind) here behind (reading known call behind)
   reading_at = ap (λ (qs : List ℕ). reading known call (words_of ts qs) 0) (drop_more ps at 0 h)
 
-  pub read_token : callee known here behind ≡ None → reading known call (words_of ts (drop at ps)) 0 ≡ join (itself here) (reading known call behind 0)
+  pub read_token : callee known here behind ≡ None → reading known call (words_of ts (drop at ps)) 0 ≡ join_given (itself here) (reading known call behind 0)
   read_token e = reading_at ∙ ap (λ (o : Option Inline). turn call 0 o here behind (reading known call behind)) e
 
   enclosed_at : (d : Inline) → callee known here behind ≡ Some d → reading known call (words_of ts (drop at ps)) 0 ≡ enclosed (call d) behind (reading known call behind) (closing OpenParen CloseParen inside 0)
@@ -46,12 +46,12 @@ module _ (known : List Inline) (call : Inline → List Word → Option Given) (t
   read_open d e f = enclosed_at d e ∙ ap (enclosed (call d) behind (reading known call behind)) f
 
   pub read_call : (d : Inline) (n : ℕ) → callee known here behind ≡ Some d → closing OpenParen CloseParen inside 0 ≡ Some n
-      → reading known call (words_of ts (drop at ps)) 0 ≡ join (call d (words_of ts (take n (drop (at + 2) ps)))) (reading known call (words_of ts (drop (at + (n + 3)) ps)) 0)
+      → reading known call (words_of ts (drop at ps)) 0 ≡ join_given (call d (words_of ts (take n (drop (at + 2) ps)))) (reading known call (words_of ts (drop (at + (n + 3)) ps)) 0)
   read_call d n e f =
       let k : at + 1 + (n + 2) ≡ at + (n + 3) = omega arith in
       enclosed_at d e ∙ ap (enclosed (call d) behind (reading known call behind)) f
-      ∙ ap (λ (ws : List Word). join (call d ws) (reading known call behind (n + 2))) (ap (take n) inside-is ∙ take-map (word_at ts) n (drop (at + 2) ps))
-      ∙ ap (join (call d (words_of ts (take n (drop (at + 2) ps)))))
+      ∙ ap (λ (ws : List Word). join_given (call d ws) (reading known call behind (n + 2))) (ap (take n) inside-is ∙ take-map (word_at ts) n (drop (at + 2) ps))
+      ∙ ap (join_given (call d (words_of ts (take n (drop (at + 2) ps)))))
       (reading_passing known call behind (n + 2) ∙ ap (λ (ws : List Word). reading known call ws 0) (drop-map (word_at ts) (n + 2) (drop (at + 1) ps) ∙ ap (words_of ts) (drop-drop (n + 2) (at + 1) ps ∙ ap (λ (m : ℕ). drop m ps) k)))
 
 pub read_end : (known : List Inline) (call : Inline → List Word → Option Given) (ts : List Word) (ps : List ℕ) (at : ℕ) → length ps ≤ at → reading known call (words_of ts (drop at ps)) 0 ≡ nothing
@@ -81,8 +81,8 @@ one_call known call w (x ∷ xs) d n e f =
     ap (λ (m : ℕ). reading known call (take m (w ∷ x ∷ xs)) 0) k
     ∙ ap (λ (o : Option Inline). turn call 0 o w (x ∷ take (n + 1) xs) (reading known call (x ∷ take (n + 1) xs))) (callee_front known w x (take (n + 1) xs) xs ∙ e)
     ∙ ap (enclosed (call d) (x ∷ take (n + 1) xs) (reading known call (x ∷ take (n + 1) xs))) (closing_front OpenParen CloseParen xs 0 n f)
-    ∙ ap (λ (zs : List Word). join (call d zs) (reading known call (x ∷ take (n + 1) xs) (n + 2))) (take-take n (n + 1) xs (omega arith))
-    ∙ ap (join (call d (take n xs))) (reading_passing known call (x ∷ take (n + 1) xs) (n + 2) ∙ ap (λ (zs : List Word). reading known call zs 0) (drop_all (n + 2) (x ∷ take (n + 1) xs) all))
+    ∙ ap (λ (zs : List Word). join_given (call d zs) (reading known call (x ∷ take (n + 1) xs) (n + 2))) (take-take n (n + 1) xs (omega arith))
+    ∙ ap (join_given (call d (take n xs))) (reading_passing known call (x ∷ take (n + 1) xs) (n + 2) ∙ ap (λ (zs : List Word). reading known call zs 0) (drop_all (n + 2) (x ∷ take (n + 1) xs) all))
     ∙ join-nothing (call d (take n xs))
 
 -- ---- a text
@@ -128,30 +128,30 @@ module _ (ts : List Word) (known ds : List Inline) (b at : ℕ) (h : at < length
   plain_at : is_inline word ≡ false → texts (drop at ts) known ds b 0 ≡ text_turn 0 false (callee known word rest) word rest (texts rest) known ds b 0
   plain_at i = texts_at ∙ ap (λ (c : Bool). text_turn 0 c (callee known word rest) word rest (texts rest) known ds b 0) i
 
-  pub text_token : is_inline word ≡ false → callee known word rest ≡ None → texts (drop at ts) known ds b 0 ≡ join (itself word) (texts rest known ds (braces_behind b word) 0)
+  pub text_token : is_inline word ≡ false → callee known word rest ≡ None → texts (drop at ts) known ds b 0 ≡ join_given (itself word) (texts rest known ds (braces_behind b word) 0)
   text_token i e = plain_at i ∙ ap (λ (o : Option Inline). text_turn 0 false o word rest (texts rest) known ds b 0) e
 
   outermost_at : (d : Inline) → is_inline word ≡ false → callee known word rest ≡ Some d
-      → texts (drop at ts) known ds b 0 ≡ outermost (calling known MOST_CALLS [] d) rest (texts rest known ds b) (closing OpenParen CloseParen (drop (at + 2) ts) 0)
+      → texts (drop at ts) known ds b 0 ≡ outermost_call (calling known MOST_CALLS [] d) rest (texts rest known ds b) (closing OpenParen CloseParen (drop (at + 2) ts) 0)
   outermost_at d i e = plain_at i ∙ ap (λ (o : Option Inline). text_turn 0 false o word rest (texts rest) known ds b 0) e
-      ∙ ap (λ (ws : List Word). outermost (calling known MOST_CALLS [] d) rest (texts rest known ds b) (closing OpenParen CloseParen ws 0)) two
+      ∙ ap (λ (ws : List Word). outermost_call (calling known MOST_CALLS [] d) rest (texts rest known ds b) (closing OpenParen CloseParen ws 0)) two
 
   pub text_open : (d : Inline) → is_inline word ≡ false → callee known word rest ≡ Some d → closing OpenParen CloseParen (drop (at + 2) ts) 0 ≡ None → texts (drop at ts) known ds b 0 ≡ None
-  text_open d i e f = outermost_at d i e ∙ ap (outermost (calling known MOST_CALLS [] d) rest (texts rest known ds b)) f
+  text_open d i e f = outermost_at d i e ∙ ap (outermost_call (calling known MOST_CALLS [] d) rest (texts rest known ds b)) f
 
   pub text_inline_inside : (d : Inline) (n : ℕ) → is_inline word ≡ false → callee known word rest ≡ Some d → closing OpenParen CloseParen (drop (at + 2) ts) 0 ≡ Some n → has_inline (take n (drop (at + 2) ts)) ≡ true → texts (drop at ts) known ds b 0 ≡ None
   text_inline_inside d n i e f g =
-      outermost_at d i e ∙ ap (outermost (calling known MOST_CALLS [] d) rest (texts rest known ds b)) f
-      ∙ ap (λ (c : Bool). cond c None (join (calling known MOST_CALLS [] d (take n (drop 1 rest))) (texts rest known ds b (n + 2)))) (ap (λ (ws : List Word). has_inline (take n ws)) two ∙ g)
+      outermost_at d i e ∙ ap (outermost_call (calling known MOST_CALLS [] d) rest (texts rest known ds b)) f
+      ∙ ap (λ (c : Bool). cond c None (join_given (calling known MOST_CALLS [] d (take n (drop 1 rest))) (texts rest known ds b (n + 2)))) (ap (λ (ws : List Word). has_inline (take n ws)) two ∙ g)
 
   pub text_call : (d : Inline) (n : ℕ) → is_inline word ≡ false → callee known word rest ≡ Some d → closing OpenParen CloseParen (drop (at + 2) ts) 0 ≡ Some n → has_inline (take n (drop (at + 2) ts)) ≡ false
-      → texts (drop at ts) known ds b 0 ≡ join (calling known MOST_CALLS [] d (take n (drop (at + 2) ts))) (texts (drop (at + 3 + n) ts) known ds b 0)
+      → texts (drop at ts) known ds b 0 ≡ join_given (calling known MOST_CALLS [] d (take n (drop (at + 2) ts))) (texts (drop (at + 3 + n) ts) known ds b 0)
   text_call d n i e f g =
       let k : at + 1 + (n + 2) ≡ at + 3 + n = omega arith in
-      outermost_at d i e ∙ ap (outermost (calling known MOST_CALLS [] d) rest (texts rest known ds b)) f
-      ∙ ap (λ (c : Bool). cond c None (join (calling known MOST_CALLS [] d (take n (drop 1 rest))) (texts rest known ds b (n + 2)))) (ap (λ (ws : List Word). has_inline (take n ws)) two ∙ g)
-      ∙ ap (λ (ws : List Word). join (calling known MOST_CALLS [] d (take n ws)) (texts rest known ds b (n + 2))) two
-      ∙ ap (join (calling known MOST_CALLS [] d (take n (drop (at + 2) ts)))) (texts_passing rest known ds b (n + 2) ∙ ap (λ (ws : List Word). texts ws known ds b 0) (drop-drop (n + 2) (at + 1) ts ∙ ap (λ (m : ℕ). drop m ts) k))
+      outermost_at d i e ∙ ap (outermost_call (calling known MOST_CALLS [] d) rest (texts rest known ds b)) f
+      ∙ ap (λ (c : Bool). cond c None (join_given (calling known MOST_CALLS [] d (take n (drop 1 rest))) (texts rest known ds b (n + 2)))) (ap (λ (ws : List Word). has_inline (take n ws)) two ∙ g)
+      ∙ ap (λ (ws : List Word). join_given (calling known MOST_CALLS [] d (take n ws)) (texts rest known ds b (n + 2))) two
+      ∙ ap (join_given (calling known MOST_CALLS [] d (take n (drop (at + 2) ts)))) (texts_passing rest known ds b (n + 2) ∙ ap (λ (ws : List Word). texts ws known ds b 0) (drop-drop (n + 2) (at + 1) ts ∙ ap (λ (m : ℕ). drop m ts) k))
 
 pub text_end : (ts : List Word) (known ds : List Inline) (b at : ℕ) → length ts ≤ at → texts (drop at ts) known ds b 0 ≡ nothing
 text_end ts known ds b at h = ap (λ (ws : List Word). texts ws known ds b 0) (drop_all at ts h)

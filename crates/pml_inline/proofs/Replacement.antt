@@ -10,7 +10,7 @@ use Rattle.pml_token.specs.Word.{Word}
 use Rattle.profile.specs.declared.TheConstants.{MOST_CALLS}
 use Rattle.pml_inline.specs.declared.calls.Text.{Text}
 use Rattle.pml_inline.specs.declared.definitions.Definition.{Definition}
-use Rattle.promela_text.specs.Inlines.{arguments, Inline, is_among, Given, join, fits, replaced, reading, calling}
+use Rattle.promela_text.specs.Inlines.{arguments, Inline, is_among, Given, join_given, fits, replaced, reading, calling}
 use Rattle.pml_inline.specs.Places.{word_at, words_of}
 use Rattle.pml_inline.specs.Parts.{inline_of, inlines_of, is_bare, lists_of, places_replaced, IsMarked}
 use Rattle.pml_inline.specs.Texts.{inlines, IsText, name_of, around, AreNumbers, call_within, read_within, IsReplaced, IsNotReplaced}
@@ -84,7 +84,7 @@ module _ (t : Text) (x : IsText t) (active : List ℕ) (numbers : AreNumbers t a
       and_no false = refl
 
   pub right : (places : List ℕ) → length active < MOST_CALLS → list_any (λ k. nat_eq k number) active ≡ false → fits d (arguments inside) ≡ true → words_of t.tokens.now places ≡ replaced d (arguments inside)
-      → call ≡ join (Some (record { tokens = []; count = length places })) (read_within t known (active ++ number ∷ []) places)
+      → call ≡ join_given (Some (record { tokens = []; count = length places })) (read_within t known (active ++ number ∷ []) places)
   right places room e f same =
       let ds : List Inline = take known (inlines t) in
       let less : MOST_CALLS - length (active ++ number ∷ []) ≡ MOST_CALLS - length active - 1 = omega (arith, length_push active number) in
@@ -93,10 +93,10 @@ module _ (t : Text) (x : IsText t) (active : List ℕ) (numbers : AreNumbers t a
       let len : length (replaced d (arguments inside)) ≡ length places = ap length (sym same) ∙ length-map places (word_at t.tokens.now) in
       ap (λ (n : ℕ). calling ds n (around (inlines t) active) d inside) one
       ∙ calling_right ds (around (inlines t) active) d inside (MOST_CALLS - length active - 1) guard
-      ∙ ap (λ (n : ℕ). join (Some (record { tokens = []; count = n })) (reading ds (calling ds (MOST_CALLS - length active - 1) (around (inlines t) active ++ d.name ∷ [])) (replaced d (arguments inside)) 0)) len
-      ∙ ap (λ (ws : List Word). join (Some (record { tokens = []; count = length places })) (reading ds (calling ds (MOST_CALLS - length active - 1) (around (inlines t) active ++ d.name ∷ [])) ws 0)) (sym same)
-      ∙ ap (λ (n : ℕ). join (Some (record { tokens = []; count = length places })) (reading ds (calling ds n (around (inlines t) active ++ d.name ∷ [])) (words_of t.tokens.now places) 0)) (sym less)
-      ∙ ap (λ (ns : List (List ℕ)). join (Some (record { tokens = []; count = length places })) (reading ds (calling ds (MOST_CALLS - length (active ++ number ∷ [])) ns) (words_of t.tokens.now places) 0)) (sym (around-more (inlines t) active number d is))
+      ∙ ap (λ (n : ℕ). join_given (Some (record { tokens = []; count = n })) (reading ds (calling ds (MOST_CALLS - length active - 1) (around (inlines t) active ++ d.name ∷ [])) (replaced d (arguments inside)) 0)) len
+      ∙ ap (λ (ws : List Word). join_given (Some (record { tokens = []; count = length places })) (reading ds (calling ds (MOST_CALLS - length active - 1) (around (inlines t) active ++ d.name ∷ [])) ws 0)) (sym same)
+      ∙ ap (λ (n : ℕ). join_given (Some (record { tokens = []; count = length places })) (reading ds (calling ds n (around (inlines t) active ++ d.name ∷ [])) (words_of t.tokens.now places) 0)) (sym less)
+      ∙ ap (λ (ns : List (List ℕ)). join_given (Some (record { tokens = []; count = length places })) (reading ds (calling ds (MOST_CALLS - length (active ++ number ∷ [])) ns) (words_of t.tokens.now places) 0)) (sym (around-more (inlines t) active number d is))
 
   pub is_replaced : (places : List ℕ) → length active < MOST_CALLS → list_any (λ k. nat_eq k number) active ≡ false → fits d (arguments inside) ≡ true → words_of t.tokens.now places ≡ replaced d (arguments inside) → length places ≤ most
       → IsReplaced t known active number inside most places d

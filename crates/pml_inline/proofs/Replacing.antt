@@ -7,7 +7,7 @@ use Rattle.std.proofs.lemmas.List.{map-append}
 use Rattle.std.proofs.lemmas.List.Elements.{All-head, All-tail}
 use Rattle.pml_token.specs.Word.{Word}
 use Rattle.pml_inline.specs.declared.definitions.Part.{Part}
-use Rattle.promela_text.specs.Inlines.{arguments, Inline, is_among, Given, join, parameter, instead, replaced, fits, where_right, reading, calling}
+use Rattle.promela_text.specs.Inlines.{arguments, Inline, is_among, Given, join_given, parameter, instead, replaced, fits, where_right, reading, calling}
 use Rattle.pml_inline.proofs.Words.{counted}
 use Rattle.pml_inline.specs.Places.{word_at, words_of}
 use Rattle.pml_inline.specs.Parts.{places_of, AreMarked, unwrap_places, places_instead, places_replaced, is_bare}
@@ -42,7 +42,7 @@ bare-is ts ((p ∷ ps) ∷ args) = bare-is ts args
 
 module _ (known : List Inline) (active : List (List ℕ)) (d : Inline) (inside : List Word) where
   pub calling_right : (room : ℕ) → (not (is_among d.name active) && fits d (arguments inside)) ≡ true
-      → calling known (suc room) active d inside ≡ join (counted (replaced d (arguments inside))) (reading known (calling known room (active ++ d.name ∷ [])) (replaced d (arguments inside)) 0)
+      → calling known (suc room) active d inside ≡ join_given (counted (replaced d (arguments inside))) (reading known (calling known room (active ++ d.name ∷ [])) (replaced d (arguments inside)) 0)
   unfolding calling
   calling_right room e = ap (λ (b : Bool). where_right b (λ ts. reading known (calling known room (active ++ d.name ∷ [])) ts 0) (replaced d (arguments inside))) e
 
@@ -60,6 +60,6 @@ count_of None = 0
 count_of (Some g) = g.count
 
 -- the replacement itself counts
-pub count_first : (n : ℕ) (r : Option Given) (g : Given) → join (Some (record { tokens = []; count = n })) r ≡ Some g → n ≤ g.count
+pub count_first : (n : ℕ) (r : Option Given) (g : Given) → join_given (Some (record { tokens = []; count = n })) r ≡ Some g → n ≤ g.count
 count_first n None g e = absurd cc
 count_first n (Some x) g e = let c : n + x.count ≡ g.count = ap count_of e in omega arith

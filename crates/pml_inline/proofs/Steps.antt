@@ -8,7 +8,7 @@ use Rattle.std.proofs.lemmas.List.{drop-map, drop-drop, drop_more, take_more, ta
 use Rattle.pml_token.specs.declared.token.Kind.TheVariants.{OpenParen, CloseParen}
 use Rattle.pml_token.specs.Word.{Word}
 use Rattle.profile.specs.declared.TheConstants.{MOST_CALLS, MOST_REPLACED}
-use Rattle.promela_text.specs.Inlines.{is_inline, has_inline, closing, Inline, definitions, Given, join, callee, reading, calling, braces_behind, texts, limited}
+use Rattle.promela_text.specs.Inlines.{is_inline, has_inline, closing, Inline, definitions, Given, join_given, callee, reading, calling, braces_behind, texts, limited}
 use Rattle.pml_inline.specs.Places.{no_word, word_at, words_of}
 use Rattle.pml_inline.specs.declared.calls.Text.{Text}
 use Rattle.pml_inline.specs.Texts.{IsPast, IsRead, inlines, option_inline, read_within, IsReplaced}
@@ -46,11 +46,11 @@ at_rest ts ps k r e = ap (λ (qs : List ℕ). closing OpenParen CloseParen (word
 pub at_range : {X : Type 0} (ps : List X) (k m : ℕ) → take (k + m - k) (drop k ps) ≡ take m (drop k ps)
 at_range ps k m = let e : k + m - k ≡ m = omega arith in ap (λ (j : ℕ). take j (drop k ps)) e
 
-pub read_done : (b : Bool) (x : Given) (r : Option Given) (y : Given) → b ≡ true → IsRead b x r y → (join (Some x) r ≡ Some y) × (y.count ≤ MOST_REPLACED)
+pub read_done : (b : Bool) (x : Given) (r : Option Given) (y : Given) → b ≡ true → IsRead b x r y → (join_given (Some x) r ≡ Some y) × (y.count ≤ MOST_REPLACED)
 read_done true x r y e h = h
 read_done false x r y e h = absurd cc
 
-pub read_past : (b : Bool) (x : Given) (r : Option Given) (y : Given) → b ≡ false → IsRead b x r y → IsPast (join (Some x) r)
+pub read_past : (b : Bool) (x : Given) (r : Option Given) (y : Given) → b ≡ false → IsRead b x r y → IsPast (join_given (Some x) r)
 read_past true x r y e h = absurd cc
 read_past false x r y e h = h
 
@@ -78,12 +78,12 @@ pub past-along : (r s : Option Given) → r ≡ s → IsPast r → IsPast s
 past-along r s e p g f = p g (e ∙ f)
 
 -- a call in front of the rest, whose replacement counts k and leads to `inner`
-call_then : (ts : List Word) (n k : ℕ) (c inner rest : Option Given) → c ≡ join (Some (record { tokens = []; count = k })) inner
-    → join (Some (record { tokens = ts; count = n })) (join c rest) ≡ join (join (Some (record { tokens = ts; count = n + k })) inner) rest
+call_then : (ts : List Word) (n k : ℕ) (c inner rest : Option Given) → c ≡ join_given (Some (record { tokens = []; count = k })) inner
+    → join_given (Some (record { tokens = ts; count = n })) (join_given c rest) ≡ join_given (join_given (Some (record { tokens = ts; count = n + k })) inner) rest
 call_then ts n k c inner rest e =
-    ap (λ (x : Option Given). join (Some (record { tokens = ts; count = n })) (join x rest)) e
-    ∙ sym (join-assoc (Some (record { tokens = ts; count = n })) (join (Some (record { tokens = []; count = k })) inner) rest)
-    ∙ ap (λ (x : Option Given). join x rest) (join-counted ts n k inner)
+    ap (λ (x : Option Given). join_given (Some (record { tokens = ts; count = n })) (join_given x rest)) e
+    ∙ sym (join-assoc (Some (record { tokens = ts; count = n })) (join_given (Some (record { tokens = []; count = k })) inner) rest)
+    ∙ ap (λ (x : Option Given). join_given x rest) (join-counted ts n k inner)
 
 module _ (known : List Inline) (call : Inline → List Word → Option Given) (ts : List Word) (ps : List ℕ) (at : ℕ) (h : at < length ps) (gs : List Word) (n : ℕ) where
   abbrev now : Option Given
@@ -101,49 +101,49 @@ module _ (known : List Inline) (call : Inline → List Word → Option Given) (t
   abbrev inside : List Word
   inside = words_of ts (drop (at + 2) ps)
 
-  pub after_token : (us : List Word) → callee known here behind ≡ None → us ≡ gs ++ here ∷ [] → join (Some (record { tokens = us; count = n })) (left (at + 1)) ≡ join now (left at)
-  after_token us e f = join-itself gs us n here (left (at + 1)) f ∙ ap (join now) (sym (read_token known call ts ps at h e))
+  pub after_token : (us : List Word) → callee known here behind ≡ None → us ≡ gs ++ here ∷ [] → join_given (Some (record { tokens = us; count = n })) (left (at + 1)) ≡ join_given now (left at)
+  after_token us e f = join-itself gs us n here (left (at + 1)) f ∙ ap (join_given now) (sym (read_token known call ts ps at h e))
 
-  pub past_open : (d : Inline) → callee known here behind ≡ Some d → closing OpenParen CloseParen inside 0 ≡ None → IsPast (join now (left at))
-  past_open d e f = past-none (join now (left at)) (ap (join now) (read_open known call ts ps at h d e f))
+  pub past_open : (d : Inline) → callee known here behind ≡ Some d → closing OpenParen CloseParen inside 0 ≡ None → IsPast (join_given now (left at))
+  past_open d e f = past-none (join_given now (left at)) (ap (join_given now) (read_open known call ts ps at h d e f))
 
   pub past_replacement : (d : Inline) (m most : ℕ) → callee known here behind ≡ Some d → closing OpenParen CloseParen inside 0 ≡ Some m → n + most ≡ MOST_REPLACED
-      → ((g : Given) → call d (words_of ts (take m (drop (at + 2) ps))) ≡ Some g → most < g.count) → IsPast (join now (left at))
+      → ((g : Given) → call d (words_of ts (take m (drop (at + 2) ps))) ≡ Some g → most < g.count) → IsPast (join_given now (left at))
   past_replacement d m most e f room p =
-      past-along (join now (join (call d (words_of ts (take m (drop (at + 2) ps)))) (left (at + (m + 3))))) (join now (left at)) (ap (join now) (sym (read_call known call ts ps at h d m e f)))
+      past-along (join_given now (join_given (call d (words_of ts (take m (drop (at + 2) ps)))) (left (at + (m + 3))))) (join_given now (left at)) (ap (join_given now) (sym (read_call known call ts ps at h d m e f)))
       (past-of (record { tokens = gs; count = n }) (call d (words_of ts (take m (drop (at + 2) ps)))) (left (at + (m + 3))) most room p)
 
   call_is : (d : Inline) (m k : ℕ) (inner : Option Given) → callee known here behind ≡ Some d → closing OpenParen CloseParen inside 0 ≡ Some m
-      → call d (words_of ts (take m (drop (at + 2) ps))) ≡ join (Some (record { tokens = []; count = k })) inner
-      → join now (left at) ≡ join (join (Some (record { tokens = gs; count = n + k })) inner) (left (at + (m + 3)))
-  call_is d m k inner e f c = ap (join now) (read_call known call ts ps at h d m e f) ∙ call_then gs n k (call d (words_of ts (take m (drop (at + 2) ps)))) inner (left (at + (m + 3))) c
+      → call d (words_of ts (take m (drop (at + 2) ps))) ≡ join_given (Some (record { tokens = []; count = k })) inner
+      → join_given now (left at) ≡ join_given (join_given (Some (record { tokens = gs; count = n + k })) inner) (left (at + (m + 3)))
+  call_is d m k inner e f c = ap (join_given now) (read_call known call ts ps at h d m e f) ∙ call_then gs n k (call d (words_of ts (take m (drop (at + 2) ps)))) inner (left (at + (m + 3))) c
 
   pub past_inside : (d : Inline) (m k : ℕ) (inner : Option Given) → callee known here behind ≡ Some d → closing OpenParen CloseParen inside 0 ≡ Some m
-      → call d (words_of ts (take m (drop (at + 2) ps))) ≡ join (Some (record { tokens = []; count = k })) inner
-      → IsPast (join (Some (record { tokens = gs; count = n + k })) inner) → IsPast (join now (left at))
+      → call d (words_of ts (take m (drop (at + 2) ps))) ≡ join_given (Some (record { tokens = []; count = k })) inner
+      → IsPast (join_given (Some (record { tokens = gs; count = n + k })) inner) → IsPast (join_given now (left at))
   past_inside d m k inner e f c p =
-      past-along (join (join (Some (record { tokens = gs; count = n + k })) inner) (left (at + (m + 3)))) (join now (left at)) (sym (call_is d m k inner e f c))
-      (past-more (join (Some (record { tokens = gs; count = n + k })) inner) (left (at + (m + 3))) p)
+      past-along (join_given (join_given (Some (record { tokens = gs; count = n + k })) inner) (left (at + (m + 3)))) (join_given now (left at)) (sym (call_is d m k inner e f c))
+      (past-more (join_given (Some (record { tokens = gs; count = n + k })) inner) (left (at + (m + 3))) p)
 
   pub after_call : (d : Inline) (m k : ℕ) (inner : Option Given) (new : Given) → callee known here behind ≡ Some d → closing OpenParen CloseParen inside 0 ≡ Some m
-      → call d (words_of ts (take m (drop (at + 2) ps))) ≡ join (Some (record { tokens = []; count = k })) inner
-      → join (Some (record { tokens = gs; count = n + k })) inner ≡ Some new → join (Some new) (left (at + (m + 3))) ≡ join now (left at)
-  after_call d m k inner new e f c g = ap (λ (x : Option Given). join x (left (at + (m + 3)))) (sym g) ∙ sym (call_is d m k inner e f c)
+      → call d (words_of ts (take m (drop (at + 2) ps))) ≡ join_given (Some (record { tokens = []; count = k })) inner
+      → join_given (Some (record { tokens = gs; count = n + k })) inner ≡ Some new → join_given (Some new) (left (at + (m + 3))) ≡ join_given now (left at)
+  after_call d m k inner new e f c g = ap (λ (x : Option Given). join_given x (left (at + (m + 3)))) (sym g) ∙ sym (call_is d m k inner e f c)
 
 pub read_all : (known : List Inline) (call : Inline → List Word → Option Given) (ts : List Word) (ps : List ℕ) (at : ℕ) (now : Given) (r : Option Given) → length ps ≤ at
-    → join (Some now) (reading known call (words_of ts (drop at ps)) 0) ≡ r → r ≡ Some now
-read_all known call ts ps at now r h e = sym e ∙ ap (join (Some now)) (read_end known call ts ps at h) ∙ join-nothing (Some now)
+    → join_given (Some now) (reading known call (words_of ts (drop at ps)) 0) ≡ r → r ≡ Some now
+read_all known call ts ps at now r h e = sym e ∙ ap (join_given (Some now)) (read_end known call ts ps at h) ∙ join-nothing (Some now)
 
 -- ---- a text
 
-pub misread_none : (now : Option Given) (left r : Option Given) → join now left ≡ r → left ≡ None → limited r ≡ None
-misread_none now left r e f = ap limited (sym e ∙ ap (join now) f ∙ join-none now)
+pub misread_none : (now : Option Given) (left r : Option Given) → join_given now left ≡ r → left ≡ None → limited r ≡ None
+misread_none now left r e f = ap limited (sym e ∙ ap (join_given now) f ∙ join-none now)
 
 pub misread_past : (r : Option Given) (s : Option Given) → s ≡ r → IsPast s → limited r ≡ None
 misread_past r s e p = limited-past r (past-along s r e p)
 
-pub text_all : (ts : List Word) (known ds : List Inline) (b at : ℕ) (now : Given) (r : Option Given) → length ts ≤ at → join (Some now) (texts (drop at ts) known ds b 0) ≡ r → now.count ≤ MOST_REPLACED → limited r ≡ Some now.tokens
-text_all ts known ds b at now r h e le = limited-within r now (sym e ∙ ap (join (Some now)) (text_end ts known ds b at h) ∙ join-nothing (Some now)) le
+pub text_all : (ts : List Word) (known ds : List Inline) (b at : ℕ) (now : Given) (r : Option Given) → length ts ≤ at → join_given (Some now) (texts (drop at ts) known ds b 0) ≡ r → now.count ≤ MOST_REPLACED → limited r ≡ Some now.tokens
+text_all ts known ds b at now r h e le = limited-within r now (sym e ∙ ap (join_given (Some now)) (text_end ts known ds b at h) ∙ join-nothing (Some now)) le
 
 module _ (ts : List Word) (known ds : List Inline) (b at : ℕ) (h : at < length ts) (gs : List Word) (n : ℕ) where
   abbrev text_now : Option Given
@@ -158,8 +158,8 @@ module _ (ts : List Word) (known ds : List Inline) (b at : ℕ) (h : at < length
   abbrev rest : List Word
   rest = drop (at + 1) ts
 
-  pub text_after_token : (us : List Word) → is_inline word ≡ false → callee known word rest ≡ None → us ≡ gs ++ word ∷ [] → join (Some (record { tokens = us; count = n })) (texts rest known ds (braces_behind b word) 0) ≡ join text_now text_left
-  text_after_token us i e f = join-itself gs us n word (texts rest known ds (braces_behind b word) 0) f ∙ ap (join text_now) (sym (text_token ts known ds b at h i e))
+  pub text_after_token : (us : List Word) → is_inline word ≡ false → callee known word rest ≡ None → us ≡ gs ++ word ∷ [] → join_given (Some (record { tokens = us; count = n })) (texts rest known ds (braces_behind b word) 0) ≡ join_given text_now text_left
+  text_after_token us i e f = join-itself gs us n word (texts rest known ds (braces_behind b word) 0) f ∙ ap (join_given text_now) (sym (text_token ts known ds b at h i e))
 
   -- the call alone, as it is read
   alone : (d : Inline) (m : ℕ) → callee known word rest ≡ Some d → closing OpenParen CloseParen (drop (at + 2) ts) 0 ≡ Some m
@@ -172,21 +172,21 @@ module _ (ts : List Word) (known ds : List Inline) (b at : ℕ) (h : at < length
       ∙ ap (λ (ws : List Word). calling known MOST_CALLS [] d (take m ws)) two
 
   text_call_is : (d : Inline) (m : ℕ) → is_inline word ≡ false → callee known word rest ≡ Some d → closing OpenParen CloseParen (drop (at + 2) ts) 0 ≡ Some m → has_inline (take m (drop (at + 2) ts)) ≡ false
-      → join text_now text_left ≡ join (join text_now (reading known (calling known MOST_CALLS []) (take (m + 3) (drop at ts)) 0)) (texts (drop (at + 3 + m) ts) known ds b 0)
+      → join_given text_now text_left ≡ join_given (join_given text_now (reading known (calling known MOST_CALLS []) (take (m + 3) (drop at ts)) 0)) (texts (drop (at + 3 + m) ts) known ds b 0)
   text_call_is d m i e f g =
-      ap (join text_now) (text_call ts known ds b at h d m i e f g)
-      ∙ ap (λ (x : Option Given). join text_now (join x (texts (drop (at + 3 + m) ts) known ds b 0))) (sym (alone d m e f))
+      ap (join_given text_now) (text_call ts known ds b at h d m i e f g)
+      ∙ ap (λ (x : Option Given). join_given text_now (join_given x (texts (drop (at + 3 + m) ts) known ds b 0))) (sym (alone d m e f))
       ∙ sym (join-assoc text_now (reading known (calling known MOST_CALLS []) (take (m + 3) (drop at ts)) 0) (texts (drop (at + 3 + m) ts) known ds b 0))
 
   pub text_past_call : (d : Inline) (m : ℕ) → is_inline word ≡ false → callee known word rest ≡ Some d → closing OpenParen CloseParen (drop (at + 2) ts) 0 ≡ Some m → has_inline (take m (drop (at + 2) ts)) ≡ false
-      → IsPast (join text_now (reading known (calling known MOST_CALLS []) (take (m + 3) (drop at ts)) 0)) → IsPast (join text_now text_left)
+      → IsPast (join_given text_now (reading known (calling known MOST_CALLS []) (take (m + 3) (drop at ts)) 0)) → IsPast (join_given text_now text_left)
   text_past_call d m i e f g p =
-      past-along (join (join text_now (reading known (calling known MOST_CALLS []) (take (m + 3) (drop at ts)) 0)) (texts (drop (at + 3 + m) ts) known ds b 0)) (join text_now text_left) (sym (text_call_is d m i e f g))
-      (past-more (join text_now (reading known (calling known MOST_CALLS []) (take (m + 3) (drop at ts)) 0)) (texts (drop (at + 3 + m) ts) known ds b 0) p)
+      past-along (join_given (join_given text_now (reading known (calling known MOST_CALLS []) (take (m + 3) (drop at ts)) 0)) (texts (drop (at + 3 + m) ts) known ds b 0)) (join_given text_now text_left) (sym (text_call_is d m i e f g))
+      (past-more (join_given text_now (reading known (calling known MOST_CALLS []) (take (m + 3) (drop at ts)) 0)) (texts (drop (at + 3 + m) ts) known ds b 0) p)
 
   pub text_after_call : (d : Inline) (m : ℕ) (new : Given) → is_inline word ≡ false → callee known word rest ≡ Some d → closing OpenParen CloseParen (drop (at + 2) ts) 0 ≡ Some m → has_inline (take m (drop (at + 2) ts)) ≡ false
-      → join text_now (reading known (calling known MOST_CALLS []) (take (m + 3) (drop at ts)) 0) ≡ Some new → join (Some new) (texts (drop (at + 3 + m) ts) known ds b 0) ≡ join text_now text_left
-  text_after_call d m new i e f g r = ap (λ (x : Option Given). join x (texts (drop (at + 3 + m) ts) known ds b 0)) (sym r) ∙ sym (text_call_is d m i e f g)
+      → join_given text_now (reading known (calling known MOST_CALLS []) (take (m + 3) (drop at ts)) 0) ≡ Some new → join_given (Some new) (texts (drop (at + 3 + m) ts) known ds b 0) ≡ join_given text_now text_left
+  text_after_call d m new i e f g r = ap (λ (x : Option Given). join_given x (texts (drop (at + 3 + m) ts) known ds b 0)) (sym r) ∙ sym (text_call_is d m i e f g)
 
 -- ---- a text by its places
 

@@ -5,7 +5,7 @@ use Rattle.std.specs.Str.{bytes_eq}
 use Rattle.std.proofs.lemmas.Bool.{false≢true}
 use Rattle.pml_token.specs.declared.token.Kind.TheVariants.{OpenParen}
 use Rattle.pml_token.specs.Word.{Word}
-use Rattle.promela_text.specs.Inlines.{is_inline, has_inline, is_name, begins, Inline, definition, definition_turn, definitions, join, itself, callee, braces_behind, text_turn, texts, limited, Expands}
+use Rattle.promela_text.specs.Inlines.{is_inline, has_inline, is_name, begins_as, Inline, definition, definition_turn, definitions, join_given, itself, callee, braces_behind, text_turn, texts, limited, Expands}
 use Rattle.pml_inline.proofs.Whole.{expansion_is}
 
 neither : (b c : Bool) → (b || c) ≡ false → (b ≡ false) × (c ≡ false)
@@ -20,7 +20,7 @@ no_definitions (w ∷ ws) h =
 
 calls_nothing : (w : Word) (ws : List Word) → callee [] w ws ≡ None
 unfolding callee
-calls_nothing w ws = by_test (is_name w && begins OpenParen ws)
+calls_nothing w ws = by_test (is_name w && begins_as OpenParen ws)
   where
     by_test : (b : Bool) → cond b (find (λ (d : Inline). bytes_eq w.text d.name) []) None ≡ None
     by_test true = refl
@@ -32,7 +32,7 @@ unchanged (w ∷ ws) n h =
     let both : (is_inline w ≡ false) × (has_inline ws ≡ false) = neither (is_inline w) (has_inline ws) h in
     ap (λ (b : Bool). text_turn 0 b (callee [] w ws) w ws (texts ws) [] [] n 0) both.0
     ∙ ap (λ (o : Option Inline). text_turn 0 false o w ws (texts ws) [] [] n 0) (calls_nothing w ws)
-    ∙ ap (join (itself w)) (unchanged ws (braces_behind n w) both.1)
+    ∙ ap (join_given (itself w)) (unchanged ws (braces_behind n w) both.1)
 
 pub own_expansion : (ts : List Word) → has_inline ts ≡ false → Expands ts ts
 own_expansion ts h = expansion_is ts [] (no_definitions ts h) refl ∙ ap limited (unchanged ts 0 h)

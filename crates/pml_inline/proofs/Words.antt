@@ -1,7 +1,7 @@
 -- Words by which what is asked behind an option is said.
 use Rattle.std.specs.Prelude.{ℕ, ◌+◌, if◌then◌else◌, List, ◌∷◌, [], length, map, take, drop, Option, Some, None, option_map, option_and_then}
 use Rattle.pml_token.specs.Word.{Word}
-use Rattle.promela_text.specs.Inlines.{Inline, listed, with_body, all_differ, Given, join, limited, texts}
+use Rattle.promela_text.specs.Inlines.{Inline, listed, with_body, all_differ, Given, join_given, limited, texts}
 
 -- a definition, and those behind it
 abbrev pub define : Option Inline → (ℕ → Option (List Inline)) → Option (List Inline)
@@ -13,7 +13,7 @@ with_parameters name ts o = option_and_then (λ ps. with_body name ps (drop (lis
 
 -- a call, whose `)` stands behind so many tokens between its parentheses, and the rest
 abbrev pub enclosed : (List Word → Option Given) → List Word → (ℕ → Option Given) → Option ℕ → Option Given
-enclosed call ws rest o = option_and_then (λ n. join (call (take n (drop 1 ws))) (rest (n + 2))) o
+enclosed call ws rest o = option_and_then (λ n. join_given (call (take n (drop 1 ws))) (rest (n + 2))) o
 
 -- what comes of a text with these definitions, no two of which have one name
 abbrev pub by_definitions : List Word → Option (List Inline) → Option (List Word)

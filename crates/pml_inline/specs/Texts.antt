@@ -7,7 +7,7 @@ use Rattle.pml_inline.specs.declared.calls.Text.{Text}
 use Rattle.pml_inline.specs.declared.calls.Given as code
 use Rattle.promela_text.specs.declared.inline_fault.InlineError.{InlineError}
 use Rattle.promela_text.specs.declared.inline_fault.InlineError.TheVariants.{Memory, Inline as Misused, TooDeep}
-use Rattle.promela_text.specs.Inlines.{is_inline, Inline, all_differ, definitions, Given, join, callee, calling, reading, texts, limited}
+use Rattle.promela_text.specs.Inlines.{is_inline, Inline, all_differ, definitions, Given, join_given, callee, calling, reading, texts, limited}
 use Rattle.pml_inline.specs.Places.{word_at, words_of}
 use Rattle.pml_inline.specs.Parts.{inlines_of, AreAllMarked, AreShort, number_of}
 
@@ -55,8 +55,8 @@ IsPast r = (g : Given) → r ≡ Some g → MOST_REPLACED < g.count
 
 -- from `before` to `after`, by what comes out
 abbrev pub IsRead : Bool → Given → Option Given → Given → Type 0
-IsRead true before r after = (join (Some before) r ≡ Some after) × (after.count ≤ MOST_REPLACED)
-IsRead false before r after = IsPast (join (Some before) r)
+IsRead true before r after = (join_given (Some before) r ≡ Some after) × (after.count ≤ MOST_REPLACED)
+IsRead false before r after = IsPast (join_given (Some before) r)
 
 abbrev pub given_of : code.Given → Given
 given_of g = record { tokens = g.tokens.items; count = g.count }
@@ -65,7 +65,7 @@ given_of g = record { tokens = g.tokens.items; count = g.count }
 pub record IsReplaced (t : Text) (known : ℕ) (active : List ℕ) (number : ℕ) (inside : List Word) (most : ℕ) (places : List ℕ) (d : Inline) : Type 0 where
   pub room : length active < MOST_CALLS
   pub few : length places ≤ most
-  pub is : call_within t known active d inside ≡ join (Some (record { tokens = []; count = length places })) (read_within t known (active ++ number ∷ []) places)
+  pub is : call_within t known active d inside ≡ join_given (Some (record { tokens = []; count = length places })) (read_within t known (active ++ number ∷ []) places)
 
 -- there is none
 abbrev pub IsNotReplaced : Text → ℕ → List ℕ → List Word → ℕ → Inline → Type 0
@@ -73,7 +73,7 @@ IsNotReplaced t known active inside most d = (g : Given) → call_within t known
 
 -- what comes out of a text from a place on, behind what came out before
 abbrev pub text_from : Text → ℕ → ℕ → Given → ℕ → Option Given
-text_from t known at before braces = join (Some before) (texts (drop at t.tokens.now) (take known (inlines t)) (drop known (inlines t)) braces 0)
+text_from t known at before braces = join_given (Some before) (texts (drop at t.tokens.now) (take known (inlines t)) (drop known (inlines t)) braces 0)
 
 -- a call of one of the first `known` stands there
 pub record IsCall (t : Text) (known at : ℕ) : Type 0 where

@@ -12,13 +12,13 @@ use pml_token::token::{Kind, Token, same_kind};
 use std::alloc::{AllocError, Global};
 
 fn opens(kind: Kind) -> bool
-    ensures { result ≡ brackets.opens kind }
+    ensures { result ≡ brackets.opens_bracket kind }
 {
     matches!(kind, Kind::OpenParen | Kind::OpenBracket | Kind::OpenBrace)
 }
 
 fn closes(kind: Kind) -> bool
-    ensures { result ≡ brackets.closes kind }
+    ensures { result ≡ brackets.closes_bracket kind }
 {
     matches!(
         kind,

@@ -38,7 +38,7 @@ fn parameters<'t>(
     from: usize,
 ) -> Result<Option<Vec<&'t [u8]>>, AllocError>
     requires { from ≤ length tokens.now }
-    ensures names { let ps = inlines.parameters (drop from tokens.now) in
+    ensures names { let ps = inlines.parameter_names (drop from tokens.now) in
         IfOk result (λ o. MatchOption o (ps ≡ None) (λ v. ps ≡ Some (texts_of v.items))) }
     ensures within { IfOk result (λ o. IfSome o (λ v. from + inlines.listed (texts_of v.items) ≤ length tokens.now)) }
 {

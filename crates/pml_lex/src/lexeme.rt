@@ -2,6 +2,7 @@
 
 ghost use Rattle.std.specs.Prelude.{◌≡◌, ◌<◌, ◌≤◌, ◌+◌, length, drop, false, IfSome};
 ghost use Rattle.std.specs.List.{prefix_len};
+ghost use Rattle.profile.specs.Characters.{is_digit};
 ghost use Rattle.promela_text.specs.Tokens as lexemes;
 ghost use Rattle.pml_lex.specs.Scanning as scanning;
 
@@ -17,7 +18,7 @@ pub fn is_blank(b: u8) -> bool
 }
 
 pub(crate) fn is_digit(b: u8) -> bool
-    ensures { result ≡ lexemes.is_digit b }
+    ensures { result ≡ is_digit b }
 {
     b'0' <= b && b <= b'9'
 }
@@ -79,7 +80,7 @@ fn name_bytes(text: &[u8]) -> usize
 
 /// How many digits a text begins with.
 pub fn digits(text: &[u8]) -> usize
-    ensures value { result ≡ prefix_len lexemes.is_digit text.now }
+    ensures value { result ≡ prefix_len is_digit text.now }
     ensures within { result ≤ length text.now }
 {
     let mut end = 0;

@@ -8,7 +8,7 @@ use Rattle.promela_session.specs.declared.ends.Cause.TheVariants as cause
 use Rattle.promela_session.specs.declared.ends.Broken.TheVariants as broken
 use Rattle.promela_session.specs.declared.form.Stream.TheVariants.{Unread}
 use Rattle.promela_session.specs.Events.{Part}
-use Rattle.promela_session.specs.Session.{only, end_of, refused, transcript}
+use Rattle.promela_session.specs.Session.{only_this, end_of, refused, transcript}
 use Rattle.promela_session.specs.Devices.{Ends, IsBrokenOff, converted, IsConvertedBy}
 use Rattle.session.proofs.Moving.{Moved-nil}
 use Rattle.session.proofs.Parts.{memory_breaks, only_does}
@@ -26,7 +26,7 @@ use Rattle.pml_play.proofs.Each.{has_transcript}
 
 -- each text has a conversion
 conversion_of : (text : List ℕ) (options : Options) (run : List ℕ → Part End) → IsTranscript text options run → (part : List ℕ → Part End) × IsConversion text options part
-conversion_of text options run (of_refusal {refusal} {line} h) = (only (end_of (cause.Refused refusal line) 0) Unread, no_model h)
+conversion_of text options run (of_refusal {refusal} {line} h) = (only_this (end_of (cause.Refused refusal line) 0) Unread, no_model h)
 conversion_of text options run (of_model {state} h) = (converted (transcript rules options state), of_its_model h)
 
 has_conversion : (text : List ℕ) (options : Options) → (part : List ℕ → Part End) × IsConversion text options part
@@ -46,7 +46,7 @@ rejected_converts text options Memory a is = record {
 }
 rejected_converts text options (Refused refusal line) a is = record {
   whole = λ own. record {
-    part = only (end_of (cause.Refused refusal line) 0) Unread;
+    part = only_this (end_of (cause.Refused refusal line) 0) Unread;
     is_conversion = no_model is;
     ends = (Unread, only_does (end_of (cause.Refused refusal line) 0) Unread);
     run = refused refusal line Unread;

@@ -10,7 +10,7 @@ use Rattle.promela_session.specs.declared.form.Stream.TheVariants.{Unread, Known
 use Rattle.promela_session.specs.declared.form.Version.TheVariants.{First}
 use Rattle.promela_session.specs.Events.{Event, Put, Told, Recorded, Stepped, asks, recorded, Part, preceded, record_line, all_digits, placed_line, prompt, list_from}
 use Rattle.profile.specs.declared.TheConstants.{LINE_BYTES}
-use Rattle.promela_session.specs.Session.{Rules, Goes, place_of, select, stepped, step_text, answered, story, transcript}
+use Rattle.promela_session.specs.Session.{Rules, Goes, place_of_move, select_move, stepped, step_text, answered, story, transcript}
 use Rattle.session.proofs.Parts.{recorded-append, recorded-asks}
 use Rattle.session.proofs.Records.{IsPlain}
 use Rattle.session.proofs.Replay.{picked_again}
@@ -38,21 +38,21 @@ module _ {S M : Type 0} (rules : Rules S M) (options : Options) where
   -- the only move is taken
   pub one_played : (fuel : ℕ) (s : S) (steps : ℕ) (m : M) → rules.moves s ≡ m ∷ [] → (t : S) (printed : List ℕ) → rules.step s m ≡ Goes t printed → (stream : Stream) (more : List ℕ)
       → story First rules options (suc fuel) s steps stream more ≡ preceded (Stepped ∷ Put Told (text_of s m steps t printed) ∷ []) (story First rules options fuel t (steps + 1) stream more)
-  unfolding select answered stepped
+  unfolding select_move answered stepped
   one_played fuel s steps m is t printed goes stream more = story_some First rules options s steps stream fuel m [] is more ∙ rw goes refl
 
   -- of several the one whose number comes
   pub many_played : (fuel : ℕ) (s : S) (steps : ℕ) (m k : M) (ms : List M) → rules.moves s ≡ m ∷ k ∷ ms → (n : ℕ) → 0 < n → n ≤ length (m ∷ k ∷ ms) → length (all_digits n) ≤ LINE_BYTES
       → (t : S) (printed : List ℕ) → rules.step s (get_or (m ∷ k ∷ ms) (n - 1) m) ≡ Goes t printed → (stream : Stream) → IsPlain stream → (more : List ℕ)
       → story First rules options (suc fuel) s steps stream (record_line n ++ more)
-      ≡ preceded (Put Told (list_from (rules.text s) 1 (m ∷ k ∷ ms)) ∷ Put Told (prompt (length (m ∷ k ∷ ms))) ∷ (asks (record_line n) false ++ Recorded (record_line n) (placed_line n (place_of rules s (m ∷ k ∷ ms) n)) ∷ []))
+      ≡ preceded (Put Told (list_from (rules.text s) 1 (m ∷ k ∷ ms)) ∷ Put Told (prompt (length (m ∷ k ∷ ms))) ∷ (asks (record_line n) false ++ Recorded (record_line n) (placed_line n (place_of_move rules s (m ∷ k ∷ ms) n)) ∷ []))
       (preceded (Stepped ∷ Put Told (text_of s (get_or (m ∷ k ∷ ms) (n - 1) m) steps t printed) ∷ []) (story First rules options fuel t (steps + 1) (Known First) more))
-  unfolding select answered stepped
+  unfolding select_move answered stepped
   many_played fuel s steps m k ms is n some within short t printed goes stream plain more =
       let moves = m ∷ k ∷ ms in
       let next = answered rules options s moves m steps (λ t o r. story First rules options fuel t (steps + 1) o r) in
       story_some First rules options s steps stream fuel m (k ∷ ms) is (record_line n ++ more)
-      ∙ picked_again (rules.text s) (place_of rules s moves) moves next n more some within short stream plain
+      ∙ picked_again (rules.text s) (place_of_move rules s moves) moves next n more some within short stream plain
       ∙ rw goes refl
 
   -- what holds of states, is kept by steps, and bounds the numbers of their moves
@@ -93,7 +93,7 @@ module _ {S M : Type 0} (rules : Rules S M) (options : Options) where
         let later = story First rules options fuel leg.next (steps + 1) (Known First) more in
         let part = ap (story First rules options (suc fuel) s steps stream) choices ∙ many_played fuel s steps m k ms is n (omega arith) (omega (arith, below)) few leg.next step.printed goes stream plain more in
         leg_first s steps ns leg path _ later step (ap (λ (q : Part End). q.value) part)
-        (ap (λ (q : Part End). recorded q.events) part ∙ asked_recorded (list_from (rules.text s) 1 moves) (prompt (length moves)) n (placed_line n (place_of rules s moves n)) (text_of s (get_or moves (n - 1) m) steps leg.next step.printed) later.events ∙ ap (λ (l : List ℕ). flat_map record_line l ++ recorded later.events) (sym numbered)) (rest (Known First) refl)
+        (ap (λ (q : Part End). recorded q.events) part ∙ asked_recorded (list_from (rules.text s) 1 moves) (prompt (length moves)) n (placed_line n (place_of_move rules s moves n)) (text_of s (get_or moves (n - 1) m) steps leg.next step.printed) later.events ∙ ap (λ (l : List ℕ). flat_map record_line l ++ recorded later.events) (sym numbered)) (rest (Known First) refl)
 
     path_first : (fuel : ℕ) (s : S) (steps : ℕ) → steps + fuel ≡ options.limit → P s → (path : List (Leg S M)) (numbers : List ℕ) → IsPath rules s path numbers → length path ≤ fuel → (stream : Stream) → IsPlain stream → (more : List ℕ)
         → PlaysFrom s steps path (story First rules options fuel s steps stream (flat_map record_line numbers ++ more))

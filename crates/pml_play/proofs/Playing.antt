@@ -7,7 +7,7 @@ use Rattle.promela_session.specs.declared.ends.End.{End}
 use Rattle.promela_session.specs.declared.ends.Cause.TheVariants as cause
 use Rattle.promela_session.specs.declared.ends.Broken.{Broken}
 use Rattle.promela_session.specs.declared.ends.Broken.TheVariants as broken
-use Rattle.promela_session.specs.Session.{only, end_of, refused, transcript}
+use Rattle.promela_session.specs.Session.{only_this, end_of, refused, transcript}
 use Rattle.promela_session.specs.Devices.{Breaks}
 use Rattle.promela_session.specs.Events.{refusal_line}
 use Rattle.session.specs.Writes.{Runs}
@@ -88,12 +88,12 @@ module _ (text : List ℕ) (options : Options) (a b : Holdings) where
   rejected (Refused r line) (Ok end) is h = subst (λ (x : End). PlaysWhole text options a b 0 x) (sym h.1) (record {
     part = refused r line Unread;
     is_transcript = of_refusal is;
-    ends = (Unread, Leads-does (puts (refusal_line r) (only (end_of (cause.Refused r line) 0) Unread) h.0) (only_does (end_of (cause.Refused r line) 0) Unread));
+    ends = (Unread, Leads-does (puts (refusal_line r) (only_this (end_of (cause.Refused r line) 0) Unread) h.0) (only_does (end_of (cause.Refused r line) 0) Unread));
   })
   rejected (Refused r line) (Err e) is h = record {
     part = refused r line Unread;
     is_transcript = of_refusal is;
-    breaks = write_breaks e (refusal_line r) (only (end_of (cause.Refused r line) 0) Unread) h.0;
+    breaks = write_breaks e (refusal_line r) (only_this (end_of (cause.Refused r line) 0) Unread) h.0;
   }
 
   pub rejected_plays : (n : ℕ) (rejection : Rejection) (result : Result End Broken) → n ≡ 0 → IsRejected text rejection → Rejects rejection result a b → PlaysText text options result a b n

@@ -15,9 +15,10 @@ use Rattle.promela_session.specs.declared.form.Stream.TheVariants.{Unread}
 use Rattle.promela_session.specs.declared.form.Version.TheVariants.{First}
 use Rattle.promela_session.specs.Events.{Event, recorded, Part, record_line, all_digits}
 use Rattle.profile.specs.declared.TheConstants.{BAD_LINES}
-use Rattle.promela_session.specs.Lines.{is_digit, number_of}
+use Rattle.profile.specs.Characters.{is_digit}
+use Rattle.promela_session.specs.Lines.{number_of}
 use Rattle.session.specs.Answers.{IsPickUpTo}
-use Rattle.promela_session.specs.Session.{Rules, Outcome, Goes, Faults, ask, place_of, select, finished, stepped, answered, story, transcript, final_cause}
+use Rattle.promela_session.specs.Session.{Rules, Outcome, Goes, Faults, ask_for_move, place_of_move, select_move, finished, stepped, answered, story, transcript, final_cause}
 use Rattle.session.proofs.Parts.{recorded-append}
 use Rattle.session.proofs.Replay.{Silent, ask_silent, ask_range, picked_is_there, chosen, recorded_chosen}
 use Rattle.session.proofs.Turns.{story_none, story_limit, story_some, answer_part}
@@ -184,7 +185,7 @@ module _ {S M : Type 0} (rules : Rules S M) (options : Options) where
 
     -- of several the one whose number is picked, or none
     question_runs : (m k : M) (ms : List M) → rules.moves s ≡ m ∷ k ∷ ms → (asked : List Event) → Silent asked → (said : Answer) → IsPickUpTo (length (m ∷ k ∷ ms)) said → (stream : Stream) (left : List ℕ)
-        → RunsFrom s steps (chosen (rules.text s) (place_of rules s (m ∷ k ∷ ms)) (m ∷ k ∷ ms) (answered rules options s (m ∷ k ∷ ms) m steps later) asked said stream left)
+        → RunsFrom s steps (chosen (rules.text s) (place_of_move rules s (m ∷ k ∷ ms)) (m ∷ k ∷ ms) (answered rules options s (m ∷ k ∷ ms) m steps later) asked said stream left)
     unfolding answered
     question_runs m k ms is asked silent (answer.Pick n) range stream left =
         let moves = m ∷ k ∷ ms in
@@ -192,7 +193,7 @@ module _ {S M : Type 0} (rules : Rules S M) (options : Options) where
         let within : n - 1 < length moves = omega (arith, range.0, range.1) in
         let back : n ≡ (n - 1) + 1 = omega (arith, range.0) in
         step_runs taken (n ∷ []) stream left (rw is (picked_is_there moves n m range.0 range.1)) (rw is (n - 1, ap (λ (x : ℕ). x ∷ []) back, slice_get-get_or moves (n - 1) m within)) (rules.step s taken) refl _ refl
-        (recorded_chosen (rules.text s) (place_of rules s moves) moves (answered rules options s moves m steps later) asked n stream left silent
+        (recorded_chosen (rules.text s) (place_of_move rules s moves) moves (answered rules options s moves m steps later) asked n stream left silent
         ∙ ap (λ (l : List ℕ). l ++ recorded (answered rules options s moves m steps later (answer.Pick n) stream left).events) (sym (append-nil (record_line n))))
     question_runs m k ms is asked silent answer.Quit range stream left = ends_here s steps _ [] refl (rw (append-nil asked) (rw (recorded-append asked _, silent.0) refl)) (at_question below (rw is (omega arith)) refl)
     question_runs m k ms is asked silent answer.Ended range stream left = ends_here s steps _ [] refl (rw (append-nil asked) (rw (recorded-append asked _, silent.0) refl)) (at_question below (rw is (omega arith)) refl)
@@ -202,12 +203,12 @@ module _ {S M : Type 0} (rules : Rules S M) (options : Options) where
 
   select_runs : (fuel : ℕ) (s : S) (steps : ℕ) → steps < options.limit → RunsOn steps (λ t o q. story First rules options fuel t (steps + 1) o q) → (m : M) (ms : List M) → rules.moves s ≡ m ∷ ms → (stream : Stream) (rest : List ℕ)
       → RunsFrom s steps (answer_part First rules options s steps stream fuel (m ∷ ms) m rest)
-  unfolding select
+  unfolding select_move
   select_runs fuel s steps below on m [] is stream rest = only_runs s steps below (λ t o q. story First rules options fuel t (steps + 1) o q) on m is stream rest
   select_runs fuel s steps below on m (k ∷ ms) is stream rest =
       let moves = m ∷ k ∷ ms in
-      let place = place_of rules s moves in
-      let asked = ask (length moves) place (BAD_LINES - 1) stream rest in
+      let place = place_of_move rules s moves in
+      let asked = ask_for_move (length moves) place (BAD_LINES - 1) stream rest in
       question_runs s steps below (λ t o q. story First rules options fuel t (steps + 1) o q) on m k ms is asked.events (ask_silent (length moves) place (BAD_LINES - 1) stream rest)
       asked.value (ask_range (length moves) place (BAD_LINES - 1) stream rest) asked.stream asked.left
 

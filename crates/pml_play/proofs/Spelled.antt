@@ -23,7 +23,7 @@ use Rattle.promela_model.specs.declared.range.Range.{Range}
 use Rattle.promela_model.specs.GrammarOfActions as grammar
 use Rattle.promela_model.specs.GrammarOfModels as bodies
 use Rattle.promela_model.specs.GrammarOfActions.{SpellsOpener, SpellsDeclaration, item_of, seq_of}
-use Rattle.promela_model.specs.GrammarOfModels.{SpellsBasic, SpellsStatement, SpellsItem, SpellsItems, SpellsOptions, SpellsRange, made, setting, comparing, raising, otherwise_item, breaking, turning, for_on, for_out, select_on, select_out, for_of, select_of}
+use Rattle.promela_model.specs.GrammarOfModels.{SpellsBasic, SpellsStatement, SpellsItem, SpellsItems, SpellsOptions, SpellsRange, made_word, setting, comparing, raising, otherwise_item, breaking, turning, for_on, for_out, select_on, select_out, for_of, select_of}
 use Rattle.pml_syntax.proofs.Begins.{action_moves}
 use Rattle.pml_syntax.proofs.Kept.{visibility_leads, variables_lead, separators_lead, labels_lead, gap_leads, item_leads, items_lead}
 use Rattle.pml_syntax.proofs.Ranges.{range_moves, range_leads}
@@ -101,9 +101,9 @@ module _ (r : Range) (lined : IsLinedRange r) where
       let i = r.counter in
       let on = for_on i.line i.compared i.raised i.tokens r.last s in
       let out = for_out i.line in
-      let c = comparing_few op.AtMost (made k.AtMost (codes "<=") i.line) r.last lined.line in
+      let c = comparing_few op.AtMost (made_word k.AtMost (codes "<=") i.line) r.last lined.line in
       let on_few : tree_seq on ≤ total (map tree_item s) + 4000002 =
-      omega (arith, seq-is (comparing op.AtMost (made k.AtMost (codes "<=") i.line) i.compared i.tokens r.last ∷ s ++ raising i.line i.raised i.tokens ∷ []), total-append s (raising i.line i.raised i.tokens ∷ []), c, raising_few) in
+      omega (arith, seq-is (comparing op.AtMost (made_word k.AtMost (codes "<=") i.line) i.compared i.tokens r.last ∷ s ++ raising i.line i.raised i.tokens ∷ []), total-append s (raising i.line i.raised i.tokens ∷ []), c, raising_few) in
       let out_few : tree_seq out ≤ 4000002 = two_few (otherwise_item i.line) (breaking i.line) 2000001 2000001 otherwise_few breaking_few in
       let leg = turning_few (on ∷ out ∷ []) (total (map tree_item s) + 8000004) (omega (arith, on_few, out_few)) in
       let all = two_few (setting i.line i.set i.tokens r.first) (turning i.line (on ∷ out ∷ [])) 2000001 (2000000 + (total (map tree_item s) + 8000004 + 1)) (setting_few r.first) leg in
@@ -116,8 +116,8 @@ module _ (r : Range) (lined : IsLinedRange r) where
       let on = select_on i.line i.compared i.raised i.tokens r.last in
       let out = select_out i.line in
       let on_few : tree_seq on ≤ 4000002 =
-      two_few (comparing op.Below (made k.Less (codes "<") i.line) i.compared i.tokens r.last) (raising i.line i.raised i.tokens) 2000001 2000001
-      (comparing_few op.Below (made k.Less (codes "<") i.line) r.last lined.line) raising_few in
+      two_few (comparing op.Below (made_word k.Less (codes "<") i.line) i.compared i.tokens r.last) (raising i.line i.raised i.tokens) 2000001 2000001
+      (comparing_few op.Below (made_word k.Less (codes "<") i.line) r.last lined.line) raising_few in
       let out_few : tree_seq out ≤ 2000001 = omega (arith, seq-is (breaking i.line ∷ []), breaking_few) in
       let leg = turning_few (on ∷ out ∷ []) 6000003 (omega (arith, on_few, out_few)) in
       let all = two_few (setting i.line i.set i.tokens r.first) (turning i.line (on ∷ out ∷ [])) 2000001 8000004 (setting_few r.first) leg in

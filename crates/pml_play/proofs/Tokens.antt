@@ -11,7 +11,7 @@ use Rattle.promela_text.specs.declared.lexeme.Lexeme.TheVariants.{Skipped, Token
 use Rattle.pml_token.specs.Word.{Word}
 use Rattle.promela_text.specs.Tokens.{lexeme, IsCut, is_line_feed, line_behind, is_fresh, word, words, IsOnLine, AreTokens}
 use Rattle.pml_lex.proofs.Lines.{token_lines}
-use Rattle.promela_text.specs.Inlines.{is_inline, has_inline, closing, Inline, is_among, definitions, all_differ, arguments, Given, join, itself, replaced, fits, callee, turn, reading, where_right, calling, braces_behind, outermost, defined, text_turn, texts, limited, expansion, Expands}
+use Rattle.promela_text.specs.Inlines.{is_inline, has_inline, closing, Inline, is_among, definitions, all_differ, arguments, Given, join_given, itself, replaced, fits, callee, turn, reading, where_right, calling, braces_behind, outermost_call, defined, text_turn, texts, limited, expansion, Expands}
 use Rattle.pml_inline.proofs.Words.{by_definitions, enclosed, counted}
 use Rattle.pml_inline.proofs.Keeping.{kept}
 
@@ -49,7 +49,7 @@ abbrev IsShort : ℕ → Option Given → Type 0
 IsShort n None = Unit {0}
 IsShort n (Some g) = length g.tokens ≤ n + g.count
 
-joined_short : (n m : ℕ) (a b : Option Given) → IsShort n a → IsShort m b → IsShort (n + m) (join a b)
+joined_short : (n m : ℕ) (a b : Option Given) → IsShort n a → IsShort m b → IsShort (n + m) (join_given a b)
 joined_short n m None b h k = tt
 joined_short n m (Some a) None h k = tt
 joined_short n m (Some a) (Some b) h k = let e = length-append a.tokens b.tokens in omega (arith, e, h, k)
@@ -64,15 +64,15 @@ read_short known call f (w ∷ ws) n = by_leg n (callee known w ws) (λ m. read_
   where
     by_closing : (d : Inline) (o : Option ℕ) → ((m : ℕ) → IsShort (length ws) (reading known call ws m)) → IsShort (length ws) (enclosed (call d) ws (reading known call ws) o)
     by_closing d None g = tt
-    by_closing d (Some m) g = weaker (0 + length ws) (length ws) (join (call d (take m (drop 1 ws))) (reading known call ws (m + 2))) (omega arith)
+    by_closing d (Some m) g = weaker (0 + length ws) (length ws) (join_given (call d (take m (drop 1 ws))) (reading known call ws (m + 2))) (omega arith)
         (joined_short 0 (length ws) (call d (take m (drop 1 ws))) (reading known call ws (m + 2)) (f d (take m (drop 1 ws))) (g (m + 2)))
 
     by_leg : (n : ℕ) (o : Option Inline) → ((m : ℕ) → IsShort (length ws) (reading known call ws m)) → IsShort (length (w ∷ ws)) (turn call n o w ws (reading known call ws))
     by_leg (suc n) o g = weaker (length ws) (length (w ∷ ws)) (reading known call ws n) (omega arith) (g n)
-    by_leg zero None g = weaker (1 + length ws) (length (w ∷ ws)) (join (itself w) (reading known call ws 0)) (omega arith) (joined_short 1 (length ws) (itself w) (reading known call ws 0) (omega arith) (g 0))
+    by_leg zero None g = weaker (1 + length ws) (length (w ∷ ws)) (join_given (itself w) (reading known call ws 0)) (omega arith) (joined_short 1 (length ws) (itself w) (reading known call ws 0) (omega arith) (g 0))
     by_leg zero (Some d) g = weaker (length ws) (length (w ∷ ws)) (enclosed (call d) ws (reading known call ws) (closing OpenParen CloseParen (drop 1 ws) 0)) (omega arith) (by_closing d (closing OpenParen CloseParen (drop 1 ws) 0) g)
 
-counted_join : (ts : List Word) (o : Option Given) → IsShort (length ts) o → IsShort 0 (join (counted ts) o)
+counted_join : (ts : List Word) (o : Option Given) → IsShort (length ts) o → IsShort 0 (join_given (counted ts) o)
 counted_join ts None h = tt
 counted_join ts (Some g) h = let e = length-append [] g.tokens in omega (arith, e, h)
 
@@ -95,13 +95,13 @@ text_short (w ∷ ws) known ds b n = by_leg n (is_inline w) (callee known w ws) 
     Rests : Type 0
     Rests = (ks es : List Inline) (c m : ℕ) → IsShort (length ws) (texts ws ks es c m)
 
-    by_closing : (c : Inline) (o : Option ℕ) → Rests → IsShort (length ws) (outermost (calling known MOST_CALLS [] c) ws (texts ws known ds b) o)
+    by_closing : (c : Inline) (o : Option ℕ) → Rests → IsShort (length ws) (outermost_call (calling known MOST_CALLS [] c) ws (texts ws known ds b) o)
     by_closing c None g = tt
     by_closing c (Some m) g = by_test (has_inline (take m (drop 1 ws)))
       where
-        by_test : (t : Bool) → IsShort (length ws) (cond t None (join (calling known MOST_CALLS [] c (take m (drop 1 ws))) (texts ws known ds b (m + 2))))
+        by_test : (t : Bool) → IsShort (length ws) (cond t None (join_given (calling known MOST_CALLS [] c (take m (drop 1 ws))) (texts ws known ds b (m + 2))))
         by_test true = tt
-        by_test false = weaker (0 + length ws) (length ws) (join (calling known MOST_CALLS [] c (take m (drop 1 ws))) (texts ws known ds b (m + 2))) (omega arith)
+        by_test false = weaker (0 + length ws) (length ws) (join_given (calling known MOST_CALLS [] c (take m (drop 1 ws))) (texts ws known ds b (m + 2))) (omega arith)
             (joined_short 0 (length ws) (calling known MOST_CALLS [] c (take m (drop 1 ws))) (texts ws known ds b (m + 2)) (called_short known MOST_CALLS [] c (take m (drop 1 ws))) (g known ds b (m + 2)))
 
     by_ds : (es : List Inline) (b : ℕ) → Rests → IsShort (length ws) (defined (texts ws) known es b)
@@ -112,9 +112,9 @@ text_short (w ∷ ws) known ds b n = by_leg n (is_inline w) (callee known w ws) 
     by_leg : (n : ℕ) (i : Bool) (o : Option Inline) → Rests → IsShort (length (w ∷ ws)) (text_turn n i o w ws (texts ws) known ds b n)
     by_leg (suc n) i o g = weaker (length ws) (length (w ∷ ws)) (texts ws known ds b n) (omega arith) (g known ds b n)
     by_leg zero true o g = weaker (length ws) (length (w ∷ ws)) (defined (texts ws) known ds b) (omega arith) (by_ds ds b g)
-    by_leg zero false None g = weaker (1 + length ws) (length (w ∷ ws)) (join (itself w) (texts ws known ds (braces_behind b w) 0)) (omega arith)
+    by_leg zero false None g = weaker (1 + length ws) (length (w ∷ ws)) (join_given (itself w) (texts ws known ds (braces_behind b w) 0)) (omega arith)
         (joined_short 1 (length ws) (itself w) (texts ws known ds (braces_behind b w) 0) (omega arith) (g known ds (braces_behind b w) 0))
-    by_leg zero false (Some c) g = weaker (length ws) (length (w ∷ ws)) (outermost (calling known MOST_CALLS [] c) ws (texts ws known ds b) (closing OpenParen CloseParen (drop 1 ws) 0)) (omega arith)
+    by_leg zero false (Some c) g = weaker (length ws) (length (w ∷ ws)) (outermost_call (calling known MOST_CALLS [] c) ws (texts ws known ds b) (closing OpenParen CloseParen (drop 1 ws) 0)) (omega arith)
         (by_closing c (closing OpenParen CloseParen (drop 1 ws) 0) g)
 
 -- ---- the whole

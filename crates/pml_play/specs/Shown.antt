@@ -4,7 +4,7 @@ use Rattle.std.specs.List.{flat_map}
 use Rattle.promela_session.specs.declared.ends.Options.{Options}
 use Rattle.promela_session.specs.declared.ends.End.{End}
 use Rattle.promela_session.specs.Events.{Event, Put, Told, Recorded, Stepped, asks, Part, preceded, record_line, placed_line, prompt, list_from}
-use Rattle.promela_session.specs.Session.{Rules, Outcome, Goes, Faults, place_of, step_text}
+use Rattle.promela_session.specs.Session.{Rules, Outcome, Goes, Faults, place_of_move, step_text}
 use Rattle.promela_run.specs.declared.moves.Move.{Move}
 use Rattle.promela_run.specs.World.{Running, rules as rules_of_models}
 use Rattle.pml_play.specs.Plain.{SayTheSame}
@@ -23,7 +23,7 @@ question_for rules s (m ∷ []) numbers = []
 question_for rules s (m ∷ k ∷ ms) [] = []
 question_for rules s (m ∷ k ∷ ms) (n ∷ numbers) =
     Put Told (list_from (rules.text s) 1 (m ∷ k ∷ ms)) ∷ Put Told (prompt (length (m ∷ k ∷ ms)))
-    ∷ (asks (record_line n) false ++ Recorded (record_line n) (placed_line n (place_of rules s (m ∷ k ∷ ms) n)) ∷ [])
+    ∷ (asks (record_line n) false ++ Recorded (record_line n) (placed_line n (place_of_move rules s (m ∷ k ∷ ms) n)) ∷ [])
 
 -- the numbers that are left behind it
 abbrev pub numbers_behind : {M : Type 0} → List M → List ℕ → List ℕ

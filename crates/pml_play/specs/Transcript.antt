@@ -9,7 +9,7 @@ use Rattle.promela_session.specs.Events.{Part}
 use Rattle.promela_session.specs.Devices.{Breaks, CountsBroken, Ends, failure_of, IsBrokenOff, converted, IsConvertedBy, StandsForRecord}
 use Rattle.diagnostics.specs.declared.refusal.Refusal.{Refusal}
 use Rattle.diagnostics.specs.declared.refusal.Refusal.TheVariants as r
-use Rattle.promela_session.specs.Session.{refused, transcript, only, end_of}
+use Rattle.promela_session.specs.Session.{refused, transcript, only_this, end_of}
 use Rattle.pml_token.specs.Word.{Word}
 use Rattle.profile.specs.declared.TheConstants.{MOST_TEXT_BYTES}
 use Rattle.promela_text.specs.Tokens.{IsLine, AreTokens, CannotBeCut, HoldsLeftOut}
@@ -109,7 +109,7 @@ PlaysBroken text options before after end = (broken : Broken) × (end.cause ≡ 
 
 -- The conversion of the choices of a session over a text: nothing is done where it is refused, and else that of the model.
 pub data IsConversion (text : List ℕ) (options : Options) : (List ℕ → Part End) → Type 0 where
-  no_model : {refusal : Refusal} {line : ℕ} → IsRefused text refusal line → IsConversion text options (only (end_of (cause.Refused refusal line) 0) Unread)
+  no_model : {refusal : Refusal} {line : ℕ} → IsRefused text refusal line → IsConversion text options (only_this (end_of (cause.Refused refusal line) 0) Unread)
   of_its_model : {state : Running} → IsModel text options.lossy state → IsConversion text options (converted (transcript rules options state))
 
 -- the choices over the text were converted, and stand for the record

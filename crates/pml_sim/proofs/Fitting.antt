@@ -17,7 +17,7 @@ use Rattle.promela_session.specs.Events.{Event, asks, Part, preceded, placed_lin
 use Rattle.profile.specs.declared.TheConstants.{LINE_BYTES, BAD_LINES}
 use Rattle.promela_session.specs.Lines.{Line, line_within, read_of, saw_end}
 use Rattle.session.specs.Answers.{IsPickUpTo}
-use Rattle.promela_session.specs.Session.{Rules, Outcome, Goes, Faults, one_line, next_line, one_reply, begins_second, stream_behind, only, after_line, ask, kept, place_of, select, stopped, finished, stepped, answered, story, transcript}
+use Rattle.promela_session.specs.Session.{Rules, Outcome, Goes, Faults, one_line, next_line, one_reply, begins_second, stream_behind, only_this, after_line, ask_for_move, kept, place_of_move, select_move, stopped, finished, stepped, answered, story, transcript}
 use Rattle.session.proofs.Replay.{ask_range}
 use Rattle.session.proofs.Turns.{story_none, story_limit, story_some, answer_part}
 
@@ -59,9 +59,9 @@ after_fit : (more : Stream → List ℕ → Part Answer) → ((stream : Stream) 
 after_fit more fit (Some said) stream left = refl
 after_fit more fit None stream left = fit stream left
 
-ask_fit : (most : ℕ) (place : ℕ → ℕ × ℕ) (tries : ℕ) (stream : Stream) (rest : List ℕ) → AreFit (ask most place tries stream rest).events
-unfolding ask
-ask_fit most place zero stream rest = let one = one_reply most place stream rest in fit_both one.events _ (one_fit most place stream rest) (after_fit (only answer.Hundred) (λ o l. refl) one.value one.stream one.left)
+ask_fit : (most : ℕ) (place : ℕ → ℕ × ℕ) (tries : ℕ) (stream : Stream) (rest : List ℕ) → AreFit (ask_for_move most place tries stream rest).events
+unfolding ask_for_move
+ask_fit most place zero stream rest = let one = one_reply most place stream rest in fit_both one.events _ (one_fit most place stream rest) (after_fit (only_this answer.Hundred) (λ o l. refl) one.value one.stream one.left)
 ask_fit most place (suc tries) stream rest = let one = one_reply most place stream rest in fit_both one.events _ (one_fit most place stream rest) (after_fit _ (λ o l. ask_fit most place tries o l) one.value one.stream one.left)
 
 -- ---- a session
@@ -79,7 +79,7 @@ kept_fit most place short answer.Hundred stream left h = refl
 kept_fit most place short answer.Misfit stream left h = refl
 
 module _ {S M : Type 0} (rules : Rules S M) (options : Options) (Is : S → Type 0) (goes : (s t : S) (m : M) (printed : List ℕ) → Is s → rules.step s m ≡ Goes t printed → Is t)
-    (short : (s : S) (moves : List M) → Is s → rules.moves s ≡ moves → AreShort (length moves) (place_of rules s moves)) where
+    (short : (s : S) (moves : List M) → Is s → rules.moves s ≡ moves → AreShort (length moves) (place_of_move rules s moves)) where
   abbrev IsFit : (Stream → List ℕ → Part End) → Type 0
   IsFit part = (stream : Stream) (rest : List ℕ) → AreFit (part stream rest).events
 
@@ -103,14 +103,14 @@ module _ {S M : Type 0} (rules : Rules S M) (options : Options) (Is : S → Type
   answered_fit s moves start steps later ih is answer.Hundred stream left = refl
   answered_fit s moves start steps later ih is answer.Misfit stream left = refl
 
-  select_fit : (s : S) (moves : List M) → AreShort (length moves) (place_of rules s moves) → (stream : Stream) (rest : List ℕ) → AreFit (select First rules s moves stream rest).events
-  unfolding select
+  select_fit : (s : S) (moves : List M) → AreShort (length moves) (place_of_move rules s moves) → (stream : Stream) (rest : List ℕ) → AreFit (select_move First rules s moves stream rest).events
+  unfolding select_move
   select_fit s [] h stream rest = refl
   select_fit s (m ∷ []) h stream rest = refl
   select_fit s (m ∷ k ∷ ms) h stream rest =
       let most = length (m ∷ k ∷ ms) in
-      let place = place_of rules s (m ∷ k ∷ ms) in
-      let asked = ask most place (BAD_LINES - 1) stream rest in
+      let place = place_of_move rules s (m ∷ k ∷ ms) in
+      let asked = ask_for_move most place (BAD_LINES - 1) stream rest in
       fit_both asked.events (kept First place asked.value asked.stream asked.left).events (ask_fit most place (BAD_LINES - 1) stream rest)
       (kept_fit most place h asked.value asked.stream asked.left (ask_range most place (BAD_LINES - 1) stream rest))
 
@@ -129,7 +129,7 @@ module _ {S M : Type 0} (rules : Rules S M) (options : Options) (Is : S → Type
       by ih [] e stream rest = none_fit (suc fuel) s steps e stream rest
       by ih (m ∷ ms) e stream rest =
           let moves = m ∷ ms in
-          let chosen = select First rules s moves stream rest in
+          let chosen = select_move First rules s moves stream rest in
           same_fit _ (answer_part First rules options s steps stream fuel moves m rest) (story_some First rules options s steps stream fuel m ms e rest)
           (fit_both chosen.events (answered rules options s moves m steps (λ t o q. story First rules options fuel t (steps + 1) o q) chosen.value chosen.stream chosen.left).events (select_fit s moves (short s moves is e) stream rest)
           (answered_fit s moves m steps (λ t o q. story First rules options fuel t (steps + 1) o q) ih is chosen.value chosen.stream chosen.left))

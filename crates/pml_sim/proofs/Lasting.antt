@@ -14,20 +14,20 @@ use Rattle.pml_program.specs.declared.program.Action.TheVariants as a
 use Rattle.pml_program.specs.declared.program.Proctype.{Proctype}
 use Rattle.pml_program.specs.declared.program.Program.{Program}
 use Rattle.pml_program.specs.declared.program.Run.{Run}
-use Rattle.promela_process.specs.Control.{Position, Control, at, steps, descent, sequence, basic_at}
+use Rattle.promela_process.specs.Control.{Position, Control, at, steps, descent, sequence_at, basic_at}
 use Rattle.promela_process.specs.Offers.{Edge, Levels, offers, Offer, offer_of, entry_of, offer_line}
 use Rattle.promela_process.specs.Expressions.{Reading, val, ◌>>=◌}
 use Rattle.promela_run.specs.declared.goes.Goes.{Goes}
 use Rattle.promela_run.specs.declared.live_channel.LiveChannel.{LiveChannel}
 use Rattle.promela_run.specs.Statements.{outcome, created, goes_to, sent, received, values, asserted}
-use Rattle.promela_run.specs.State.{Stand, State, reads, body_of, levels, levels_in, first_control, joined, picked}
+use Rattle.promela_run.specs.State.{Stand, State, reads, body_of, levels, levels_in, first_control, youngest_joined, picked}
 use Rattle.run_start.proofs.Chaining.{chain, chain_any, weaker}
 use Rattle.run_start.proofs.Touching.{Touched, created_touches}
 use Rattle.promela_run.specs.declared.moves.Pick.{Pick}
 use Rattle.promela_run.specs.declared.moves.Move.{Move}
 use Rattle.promela_run.specs.declared.moves.Move.TheVariants.{Death, Alone, Pair}
 use Rattle.promela_run.specs.Moves.{or_else, choices, is_choice, message}
-use Rattle.promela_run.specs.Steps.{put, put_by, put_all, with_sent, with_received, go_to, went, without_youngest, with_new, ran, run_number, Done, quiet, run_into, does, effect, behind, first_of, onward, within, within_from, taken, body_by, alone, both_on, paired, passed, step, moved_to}
+use Rattle.promela_run.specs.Steps.{put, put_by, put_all, with_sent, with_received, go_to, went, without_youngest, with_new, ran, run_number, Done, quiet, run_into, does, effect, behind_printed, first_of, onward, within, within_from, taken, body_by, alone, both_on, paired, passed, after_move, moved_to}
 use Rattle.run_search.specs.Lifted.{offer_on, offer_at, is_other, moved}
 use Rattle.run_state.specs.Calls.{put_if}
 use Rattle.pml_sim.proofs.Weight.{weight_part, AreLight, IsLight, light_steps, light_sequence, light_at}
@@ -74,8 +74,8 @@ module _ (most : ℕ) where
     offer_light : (e : Edge) → IsLight most e.1 → IsLightOffer (offer_of b e)
     offer_light e l = record {
       next = l;
-      entry = entry_light e.0 (basic_at (sequence (steps b) e.0.0) e.0.1);
-      line = line_light (sequence (steps b) e.0.0) e.0.1 (light_sequence most (steps b) e.0.0 all);
+      entry = entry_light e.0 (basic_at (sequence_at (steps b) e.0.0) e.0.1);
+      line = line_light (sequence_at (steps b) e.0.0) e.0.1 (light_sequence most (steps b) e.0.0 all);
     }
 
     level_light : (es : List Edge) → GoOn most b all es → AllByRecursion IsLightOffer (map (offer_of b) es)
@@ -213,7 +213,7 @@ module _ (most : ℕ) where
   }
 
   -- a process more, that stands before its first statement, and what is there then
-  joined_light : (s n : State) (sort : ℕ) (q : Proctype) → IsLightProctype most q → length s.stands < 255 → Light s → Touched (joined (record { sort = sort; control = first_control q.body }) s) n → Light n
+  joined_light : (s n : State) (sort : ℕ) (q : Proctype) → IsLightProctype most q → length s.stands < 255 → Light s → Touched (youngest_joined (record { sort = sort; control = first_control q.body }) s) n → Light n
   joined_light s n sort q w room h touched = subst Light (sym touched) (record {
     few = let e = length-append s.stands (record { sort = sort; control = first_control q.body } ∷ []) in omega (arith, e, room);
     bodies = h.bodies;
@@ -224,7 +224,7 @@ module _ (most : ℕ) where
   new_light s sort None vs w room h = h
   new_light s sort (Some q) vs w room h =
       let y : Stand = record { sort = sort; control = first_control q.body } in
-      weaker (Touched (joined y s)) Light (created s.program.typedefs y q.variables vs s) (λ n touched. joined_light s n sort q w room h touched)
+      weaker (Touched (youngest_joined y s)) Light (created s.program.typedefs y q.variables vs s) (λ n touched. joined_light s n sort q w room h touched)
       (created_touches s.program.typedefs y q.variables vs s)
 
   ran_light : (s : State) (r : Reading) (q : Run) → Light s → IfOk (ran s r q) Light
@@ -288,11 +288,11 @@ module _ (most : ℕ) where
   within_light : (n : ℕ) (s : State) (p : ℕ) (t : Bool) (b : Seq) (c : Control) → IsLightBody b → Light s → IsLight most c → IfOk (within n s p t b c) LightDone
   within_light zero s p t b c w h l = tt
   within_light (suc n) s p t b c w h l =
-      first_goes (choices s.lossy s.channels (reads s p t) (levels b c)) (λ o. effect s p t o.basic >>= λ d. onward o.stays d (λ e. within n e.state p false b o.next >>= behind e.printed))
+      first_goes (choices s.lossy s.channels (reads s p t) (levels b c)) (λ o. effect s p t o.basic >>= λ d. onward o.stays d (λ e. within n e.state p false b o.next >>= behind_printed e.printed))
       (choices_light s.lossy s.channels (reads s p t) (levels b c) (offers_light b w c l))
-      (λ o lo. chain LightDone LightDone (effect s p t o.basic) (λ d. onward o.stays d (λ e. within n e.state p false b o.next >>= behind e.printed)) (effect_light s p t o.basic h)
-      (λ d hd. onward_light o.stays d (λ e. within n e.state p false b o.next >>= behind e.printed) hd
-      (λ e he. chain LightDone LightDone (within n e.state p false b o.next) (behind e.printed) (within_light n e.state p false b o.next w he lo.next) (λ x hx. hx))))
+      (λ o lo. chain LightDone LightDone (effect s p t o.basic) (λ d. onward o.stays d (λ e. within n e.state p false b o.next >>= behind_printed e.printed)) (effect_light s p t o.basic h)
+      (λ d hd. onward_light o.stays d (λ e. within n e.state p false b o.next >>= behind_printed e.printed) hd
+      (λ e he. chain LightDone LightDone (within n e.state p false b o.next) (behind_printed e.printed) (within_light n e.state p false b o.next w he lo.next) (λ x hx. hx))))
 
   from_light : (n : ℕ) (s : State) (p : ℕ) (t : Bool) (b : Option Seq) (c : Option Control) → IfSome b IsLightBody → Light s → IsLightOption c → IfOk (within_from n s p t b c) LightDone
   from_light n s p t (Some b) (Some c) w h l = within_light n s p t b c w h l
@@ -329,7 +329,7 @@ module _ (most : ℕ) where
   paired_light s k j t None None h lo lw = h
 
   -- a state that a step leads to is light too
-  pub step_light : (n : ℕ) (s : State) (m : Move) → Light s → IfOk (step n s m) LightDone
+  pub step_light : (n : ℕ) (s : State) (m : Move) → Light s → IfOk (after_move n s m) LightDone
   step_light n s (Death p) h = dies_light s h
   step_light n s (Alone k t) h = alone_light n s k t (picked s k) h (picked_light s k h)
   step_light n s (Pair k j t) h = paired_light s k j t (picked s k) (picked s j) h (picked_light s k h) (picked_light s j h)

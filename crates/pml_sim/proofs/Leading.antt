@@ -10,7 +10,7 @@ use Rattle.promela_run.specs.declared.moves.Move.{Move}
 use Rattle.promela_run.specs.declared.moves.Move.TheVariants.{Death, Alone, Pair}
 use Rattle.promela_run.specs.State.{State}
 use Rattle.profile.specs.declared.TheConstants.{MOST_DSTEP_STATEMENTS}
-use Rattle.promela_run.specs.Steps.{Done, step}
+use Rattle.promela_run.specs.Steps.{Done, after_move}
 use Rattle.run_step.specs.Done.{Does}
 use Rattle.promela_run.specs.World.{Running, led_to}
 use Rattle.run_step.specs.Taking.{PastBy}
@@ -75,7 +75,7 @@ module _ (s : State) (m : Move) (new : State) (past : List Frame) (before after 
   failed (Err g) f h = ap Faults (sym h)
 
 -- after a move of the present list
-pub past_by : (m : Move) (old new : Running) (before after : List ℕ) (u : Unit {0}) (a b : ℕ) → Does (step MOST_DSTEP_STATEMENTS old.state m) (Ok u) new.state before after → PastBy m old new → old.past ≡ old.state.frames →
+pub past_by : (m : Move) (old new : Running) (before after : List ℕ) (u : Unit {0}) (a b : ℕ) → Does (after_move MOST_DSTEP_STATEMENTS old.state m) (Ok u) new.state before after → PastBy m old new → old.past ≡ old.state.frames →
     length old.state.frames ≡ a + 1 → length new.state.frames ≡ b + 1 → take (min a b + 1) new.past ≡ take (length new.state.frames) old.state.frames
 past_by (Death p) old new before after u a b d h w m n =
     let less : new.state.frames ≡ take (length old.state.stands) old.state.frames = ap (λ (s : State). s.frames) d.0 in

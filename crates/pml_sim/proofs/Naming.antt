@@ -7,13 +7,13 @@ use Rattle.pml_program.specs.declared.program.Stmt.{Stmt}
 use Rattle.pml_program.specs.declared.program.Seq.{Seq}
 use Rattle.pml_program.specs.declared.program.Proctype.{Proctype}
 use Rattle.promela_process.specs.Control.{Control}
-use Rattle.promela_process.specs.Offers.{Edge, Levels, offers, Offer, offer_of, statement_at, action}
+use Rattle.promela_process.specs.Offers.{Edge, Levels, offers, Offer, offer_of, statement_at, statement_text}
 use Rattle.promela_process.specs.Offers as off
 use Rattle.promela_run.specs.Lines.{proctype_name}
 use Rattle.promela_run.specs.declared.moves.Pick.{Pick}
 use Rattle.promela_run.specs.declared.moves.Move.TheVariants.{Death, Alone, Pair}
 use Rattle.promela_run.specs.State.{Stand, State, body_of, levels_in, picked}
-use Rattle.promela_run.specs.World.{proctype_of, heading, offer_text, pick_text, death_text}
+use Rattle.promela_run.specs.World.{sort_of_process, heading, offer_with_heading, pick_text, death_text}
 use Rattle.run_search.specs.Lifted.{offer_on, offer_at, sort_of, line_in, brace_of}
 use Rattle.pml_sim.specs.Origins.{Names, IsOffered, TextsNameOrigins}
 use Rattle.pml_sim.proofs.Lasting.{get_light}
@@ -27,7 +27,7 @@ offer_says b e = by (statement_at b e.0)
   where
     by : (x : Option Stmt) → (unwrap_or (option_map off.offer_text x) [] ≡ []) ⊎ ((more : List ℕ) × (unwrap_or (option_map off.offer_text x) [] ≡ codes "line " ++ (decimal (unwrap_or (option_map off.offer_line x) 0) ++ more)))
     by None = inl refl
-    by (Some s) = inr (codes " [" ++ (action s.basic s.tokens ++ codes "]"), refl)
+    by (Some s) = inr (codes " [" ++ (statement_text s.basic s.tokens ++ codes "]"), refl)
 
 level_says : (b : Seq) (es : List Edge) → AllByRecursion Says (map (offer_of b) es)
 level_says b [] = tt
@@ -80,7 +80,7 @@ names_more place text rest h = record {
       ∙ ap (λ l. codes "line " ++ l) (append_assoc (decimal place.1) h.more rest))))));
 }
 
-offer_names : (p : ℕ) (q : Option Proctype) (o : Option Offer) → IfSome o Says → IsOffered o → (q ≡ None → o ≡ None) → Names (p, line_in o) (offer_text p q o)
+offer_names : (p : ℕ) (q : Option Proctype) (o : Option Offer) → IfSome o Says → IsOffered o → (q ≡ None → o ≡ None) → Names (p, line_in o) (offer_with_heading p q o)
 offer_names p q None says there lost = absurd there
 offer_names p None (Some o) says there lost = let e = lost refl in cc
 offer_names p (Some q) (Some o) (inl none) there lost = absurd (there none)
@@ -93,13 +93,13 @@ no_offer s k (Some y) e = rw e refl
 
 pick_names : (s : State) (k : Pick) → IsOffered (picked s k) → Names (k.process, line_in (picked s k)) (pick_text s k)
 pick_names s k there =
-    offer_names k.process (proctype_of s k.process) (picked s k) (picked_says s k (slice_get s.stands k.process)) there (no_offer s k (slice_get s.stands k.process))
+    offer_names k.process (sort_of_process s k.process) (picked s k) (picked_says s k (slice_get s.stands k.process)) there (no_offer s k (slice_get s.stands k.process))
 
 death_names : (p : ℕ) (q : Option Proctype) → IsSome q → Names (p, brace_of q) (death_text p q)
 death_names p None some = cc
 death_names p (Some q) some = heading_names p q.end.line q _ (codes " [-end-]") (append_assoc (codes "line ") (decimal q.end.line) (codes " [-end-]"))
 
 pub texts_name_origins : TextsNameOrigins
-texts_name_origins s (Death p) there = death_names p (proctype_of s p) there
+texts_name_origins s (Death p) there = death_names p (sort_of_process s p) there
 texts_name_origins s (Alone k t) there = pick_names s k there
 texts_name_origins s (Pair k j t) there = names_more (k.process, line_in (picked s k)) (pick_text s k) _ (pick_names s k there)

@@ -3,7 +3,7 @@ use Rattle.std.proofs.Common.{ℕ, zero, suc, ◌+◌, ◌≤◌, List, [], ◌�
 use Rattle.std.specs.Prelude.{unwrap_or, option_map}
 use Rattle.pml_program.specs.declared.program.Seq.{Seq, Seq', Row_of-Stmt, end_of-Stmt, more_of-Stmt, items-the_row-Stmt}
 use Rattle.pml_program.specs.declared.program.Basic.{Basic, Plain, Goto, Break, If', Do', Block, Atomic, DStep, Unless, Row_of-Seq, end_of-Seq, more_of-Seq}
-use Rattle.promela_process.specs.Control.{Position, Descent, Control, Todo, Back, Under, InAtomic, InDStep, steps, descent, todos, into, all_of, position_of, at, broken, in_d_step, move_on, settle_within, settle, most_moves}
+use Rattle.promela_process.specs.Control.{Position, Descent, Control, Todo, Back, Under, InAtomic, InDStep, steps, descent, todos, into_arm, all_of, position_of, at, behind_break, in_d_step, move_on, settle_within, settle, most_moves}
 use Rattle.promela_process.specs.Offers.{Edge, Levels, one, join, begins, begins_seq, begins_row, begins_any, escapes, offers}
 use Rattle.pml_sim.proofs.Weight.{weight_in, weight_part, weight_row, weight_options, AreLight, IsLight, light_row, light_todos, light_at, light_into}
 
@@ -12,7 +12,7 @@ module _ (most : ℕ) (b : Seq) (all : AreLight most (steps b)) where
   AfterMove None = Unit {0}
   AfterMove (Some d) = IsLight most d
 
-  light_broken : (c : Control) → IsLight most c → IsLight most (broken c)
+  light_broken : (c : Control) → IsLight most c → IsLight most (behind_break c)
   light_broken [] l = tt
   light_broken (Back p s ∷ c) l = l.1
   light_broken (Todo p s ∷ c) l = light_broken c l.1
@@ -33,7 +33,7 @@ module _ (most : ℕ) (b : Seq) (all : AreLight most (steps b)) where
   light_moved (Todo p (Unless s e) ∷ c) l = light_into most p (Unless s e) 0 c l.0 l.1
   light_moved (Todo p (DStep s) ∷ c) l = by (in_d_step c)
     where
-      by : (t : Bool) → AfterMove (if t then Some (into p (DStep s) 0 c) else None)
+      by : (t : Bool) → AfterMove (if t then Some (into_arm p (DStep s) 0 c) else None)
       by true = light_into most p (DStep s) 0 c l.0 l.1
       by false = tt
   light_moved (Todo p (Plain a) ∷ c) l = tt

@@ -7,7 +7,7 @@ use Rattle.std.proofs.lemmas.Option.{slice_get-get_or}
 use Rattle.diagnostics.specs.declared.fault.Fault.{Fault}
 use Rattle.promela_session.specs.declared.ends.Options.{Options}
 use Rattle.promela_session.specs.Devices.{StandsForRecord}
-use Rattle.promela_session.specs.Session.{Goes, place_of, transcript}
+use Rattle.promela_session.specs.Session.{Goes, place_of_move, transcript}
 use Rattle.promela_session.specs.Events.{all_digits, placed_line}
 use Rattle.session.proofs.Placing.{can_be_converted}
 use Rattle.session.proofs.Replay.{picked_is_there}
@@ -27,7 +27,7 @@ use Rattle.promela_run.specs.Moves as search
 use Rattle.profile.specs.declared.TheConstants.{MOST_DSTEP_STATEMENTS, LINE_BYTES}
 use Rattle.promela_run.specs.Steps.{Done}
 use Rattle.promela_run.specs.Steps as outcome
-use Rattle.promela_run.specs.World.{origin_of, Running, first, moves, led_to, step, rules}
+use Rattle.promela_run.specs.World.{origin_of, Running, first, world_moves, led_to, world_step, rules}
 use Rattle.run_texts.specs.Staying.{IsWithin}
 use Rattle.promela_run.specs.declared.halt.Halt.{Halt}
 use Rattle.run_state.specs.Standing.{begins_by}
@@ -56,8 +56,8 @@ led_light frames (Ok d) t printed h e =
     goes_is x y p q f = cc
 led_light frames (Err f) t printed h e = cc
 
-pub goes_light : (s t : Running) (m : Move) (printed : List ℕ) → IsLightHere s → step s m ≡ Goes t printed → IsLightHere t
-goes_light s t m printed h e = led_light s.state.frames (outcome.step MOST_DSTEP_STATEMENTS s.state m) t printed (step_light most MOST_DSTEP_STATEMENTS s.state m h) e
+pub goes_light : (s t : Running) (m : Move) (printed : List ℕ) → IsLightHere s → world_step s m ≡ Goes t printed → IsLightHere t
+goes_light s t m printed h e = led_light s.state.frames (outcome.after_move MOST_DSTEP_STATEMENTS s.state m) t printed (step_light most MOST_DSTEP_STATEMENTS s.state m h) e
 
 begins_light : (k : ℕ) (o : Option Seq) → IfSome o (λ b. weight_part b ≤ most) → IsLightStand most (begins_by k o)
 begins_light k None h = tt
@@ -104,23 +104,23 @@ listed_few s None l = moves_few most s l
 listed_few s (Some h) l = omega arith
 
 -- the number of a move fits a line of the choices
-pub number_fits : (w : Running) → IsLightHere w → (n : ℕ) → n ≤ length (moves w) → length (all_digits n) ≤ LINE_BYTES
+pub number_fits : (w : Running) → IsLightHere w → (n : ℕ) → n ≤ length (world_moves w) → length (all_digits n) ≤ LINE_BYTES
 number_fits w h n within =
     let few = listed_few w.state w.halt h in
     let digits = few_digits 42 n (omega (arith, few, within)) in
     omega (arith, digits)
 
-short_from : (w : Running) (m : Move) (ms : List Move) → IsLightHere w → moves w ≡ ms → (n : ℕ) → 0 < n → n ≤ length ms → length (placed_line n (place_of rules w ms n)) ≤ LINE_BYTES + 1
+short_from : (w : Running) (m : Move) (ms : List Move) → IsLightHere w → world_moves w ≡ ms → (n : ℕ) → 0 < n → n ≤ length ms → length (placed_line n (place_of_move rules w ms n)) ≤ LINE_BYTES + 1
 short_from w m ms h e n some within =
     let k = slice_index_or ms (n - 1) m in
     let is : slice_get ms (n - 1) ≡ Some k = slice_get-get_or ms (n - 1) m (omega (arith, some, within)) in
-    let there : Contains (moves w) k = subst (λ (l : List Move). Contains l k) (sym e) (picked_is_there ms n m some within) in
+    let there : Contains (world_moves w) k = subst (λ (l : List Move). Contains l k) (sym e) (picked_is_there ms n m some within) in
     let few : length ms ≤ 255 * (most * (255 * most + 1) + most + 1) = subst (λ (l : List Move). length l ≤ 255 * (most * (255 * most + 1) + most + 1)) e (listed_few w.state w.halt h) in
     let lives = process_lives w.state k (listed_within w k there) in
     let all = h.few in
     rw is (short_line n (origin_of w.state k).0 (origin_of w.state k).1 (omega (arith, few, within)) (omega (arith, lives, all)) (line_light w.state k h))
 
-short : (w : Running) (ms : List Move) → IsLightHere w → moves w ≡ ms → (n : ℕ) → 0 < n → n ≤ length ms → length (placed_line n (place_of rules w ms n)) ≤ LINE_BYTES + 1
+short : (w : Running) (ms : List Move) → IsLightHere w → world_moves w ≡ ms → (n : ℕ) → 0 < n → n ≤ length ms → length (placed_line n (place_of_move rules w ms n)) ≤ LINE_BYTES + 1
 short w [] h e n some within = absurd (omega (arith, some, within))
 short w (m ∷ ms) h e n some within = short_from w m (m ∷ ms) h e n some within
 

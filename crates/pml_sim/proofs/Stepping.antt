@@ -23,7 +23,7 @@ use Rattle.promela_run.specs.declared.moves.Move.{Move}
 use Rattle.promela_run.specs.declared.moves.Move.TheVariants.{Death, Alone, Pair}
 use Rattle.promela_run.specs.Moves as search
 use Rattle.profile.specs.declared.TheConstants.{MOST_DSTEP_STATEMENTS}
-use Rattle.promela_run.specs.Steps.{sorts, Done, step}
+use Rattle.promela_run.specs.Steps.{sorts, Done, after_move}
 use Rattle.run_step.specs.Done.{Does}
 use Rattle.run_state.specs.Live.{Joins}
 use Rattle.promela_run.specs.World.{Running, first, rules, changed_lines, led_to, move_text}
@@ -45,11 +45,11 @@ stopped o = option_map (λ h. record { move = h.at; why = h.why }) o
 
 -- ---- the moves
 
-pub listed : (w : Running) (m : Move) → w.halt ≡ None → Contains (world.moves w) m → Contains (search.moves w.state) m
+pub listed : (w : Running) (m : Move) → w.halt ≡ None → Contains (world.world_moves w) m → Contains (search.moves w.state) m
 listed w m none c = subst (λ (h : Option Halt). Contains (unless_stopped h (search.moves w.state)) m) none c
 
 -- each names processes that live
-pub listed_within : (w : Running) (m : Move) → Contains (world.moves w) m → IsWithin (length w.state.stands) m
+pub listed_within : (w : Running) (m : Move) → Contains (world.world_moves w) m → IsWithin (length w.state.stands) m
 listed_within w m c = by w.halt c
   where
     by : (h : Option Halt) → Contains (unless_stopped h (search.moves w.state)) m → IsWithin (length w.state.stands) m
@@ -71,11 +71,11 @@ module _ (w live new : Running) (m : Move) (same : w.state ≡ live.state) where
   old = record live { past = live.state.frames }
 
   abbrev of : State → Result Done Fault
-  of s = step MOST_DSTEP_STATEMENTS s m
+  of s = after_move MOST_DSTEP_STATEMENTS s m
 
   pub taken_goes : (before after : List ℕ) (u : Unit {0}) (a b o : ℕ) (h : Option Halt) → length live.state.frames ≡ a + 1 → length new.state.frames ≡ b + 1 → o ≡ min a b → h ≡ None →
       Does (of live.state) (Ok u) new.state before after → PastBy m old new →
-      (x : List ℕ) × (world.step w m ≡ Goes (record { state = new.state; past = take (o + 1) new.past; halt = h }) x) × (after ≡ before ++ x)
+      (x : List ℕ) × (world.world_step w m ≡ Goes (record { state = new.state; past = take (o + 1) new.past; halt = h }) x) × (after ≡ before ++ x)
   taken_goes before after u a b o h fa fb oi hi does by =
       let past : take (o + 1) new.past ≡ take (length new.state.frames) live.state.frames = ap (λ (i : ℕ). take (i + 1) new.past) oi ∙ past_by m old new before after u a b does by refl fa fb in
       let x = went live.state m new.state (take (o + 1) new.past) before after (of live.state) u does past in
@@ -85,7 +85,7 @@ module _ (w live new : Running) (m : Move) (same : w.state ≡ live.state) where
   reason (stop.Fault f) before after h = ap (λ (s : State). led_to s.frames (of s)) same ∙ failed live.state m new.state [] before after (of live.state) f h
   reason stop.Memory before after h = tt
 
-  pub taken_stops : (e : Stop) (before after : List ℕ) → w.halt ≡ None → Does (of live.state) (Err e) new.state before after → Joins live.state new.state → Contains (world.moves w) m →
+  pub taken_stops : (e : Stop) (before after : List ℕ) → w.halt ≡ None → Does (of live.state) (Err e) new.state before after → Joins live.state new.state → Contains (world.world_moves w) m →
       IsReason rules w m e × (move_text new.state m ≡ move_text w.state m)
   taken_stops e before after none h j c =
       let inside : IsWithin (length live.state.stands) m = subst (λ (s : State). IsWithin (length s.stands) m) same (moves_within w.state m (listed w m none c)) in

@@ -14,7 +14,7 @@ use Rattle.run_values.specs.declared.change.Wanted.{Wanted}
 use Rattle.run_values.specs.declared.changed.Change.{Change}
 use Rattle.run_values.specs.Changed.{change, changes, frame_changes, step_changes, variable_changes}
 use Rattle.run_values.proofs.Undoing.{lines-same}
-use Rattle.promela_run.specs.Lines.{Owner, process_owners, process_owner, owners, owner_lines, variable_lines, line, value_lines}
+use Rattle.promela_run.specs.Lines.{Owner, process_owners, process_owner, owners, owner_lines, variable_lines, cell_line, value_lines}
 use Rattle.run_values.specs.Written.{AreFrames, AreDeclared, step_lines, global_owner}
 
 head_is : {A : Type 0} {x y : A} {xs ys : List A} → x ∷ xs ≡ y ∷ ys → x ≡ y
@@ -48,7 +48,7 @@ fewer p [] (suc n) (x ∷ xs) ys = refl
 fewer p (o ∷ os) zero xs ys = refl
 fewer p (o ∷ os) (suc n) [] ys = refl
 fewer p (o ∷ os) (suc n) (x ∷ xs) [] = refl
-fewer p (o ∷ os) (suc n) (x ∷ xs) (y ∷ ys) = ap (λ (l : List ℕ). variable_lines (line p o) o.slots x y ++ l) (fewer p os n xs ys)
+fewer p (o ∷ os) (suc n) (x ∷ xs) (y ∷ ys) = ap (λ (l : List ℕ). variable_lines (cell_line p o) o.slots x y ++ l) (fewer p os n xs ys)
 
 owners_taken : (p : Program) (wanted : Bool) (i n : ℕ) (sorts : List ℕ) → process_owners p wanted i (take n sorts) ≡ take n (process_owners p wanted i sorts)
 owners_taken p wanted i zero sorts = refl

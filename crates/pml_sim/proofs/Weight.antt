@@ -5,7 +5,7 @@ use mathlib.Core.Former.{Count}
 use Rattle.pml_program.specs.declared.program.Stmt.{Stmt}
 use Rattle.pml_program.specs.declared.program.Seq.{Seq, Seq', Row_of-Stmt, end_of-Stmt, more_of-Stmt, items-the_row-Stmt}
 use Rattle.pml_program.specs.declared.program.Basic.{Basic, Plain, Goto, Break, If, If', Do, Do', Block, Atomic, DStep, Unless, Row_of-Seq, end_of-Seq, more_of-Seq, items-the_row-Seq, items_hidden-the_row-Seq-0}
-use Rattle.promela_process.specs.Control.{Position, Descent, Control, Todo, Back, Under, InAtomic, InDStep, steps, arm, descent, todos, behind, into, sequence, beyond, at}
+use Rattle.promela_process.specs.Control.{Position, Descent, Control, Todo, Back, Under, InAtomic, InDStep, steps, arm, descent, todos, behind, into_arm, sequence_at, beyond, at}
 use Rattle.promela_process.specs.Offers.{first_line}
 
 -- one for each statement, and its line
@@ -117,9 +117,9 @@ module _ (most : ℕ) where
   light_drop (suc i) [] h = tt
   light_drop (suc i) (s ∷ ss) h = light_drop i ss h.1
 
-  pub light_sequence : (b : List Stmt) (q : List Descent) → AreLight b → AreLight (sequence b q)
+  pub light_sequence : (b : List Stmt) (q : List Descent) → AreLight b → AreLight (sequence_at b q)
   light_sequence b [] h = h
-  light_sequence b (t ∷ q) h = light_part_of (sequence b q) t.0 t.1 (light_sequence b q h)
+  light_sequence b (t ∷ q) h = light_part_of (sequence_at b q) t.0 t.1 (light_sequence b q h)
 
   pub light_todos : (q : List Descent) (i : ℕ) (ss : List Stmt) (c : Control) → AreLight ss → IsLight c → IsLight (todos q i ss c)
   light_todos q i [] c h l = l
@@ -146,10 +146,10 @@ module _ (most : ℕ) where
   light_beyond b [] h = tt
   light_beyond b (t ∷ q) h =
       let s = light_sequence b q h in
-      light_behind_of (q, t.0) (sequence b q) t.0 t.1 _ s (light_todos q (t.0 + 1) (drop (t.0 + 1) (sequence b q)) (beyond b q) (light_drop (t.0 + 1) (sequence b q) s) (light_beyond b q h))
+      light_behind_of (q, t.0) (sequence_at b q) t.0 t.1 _ s (light_todos q (t.0 + 1) (drop (t.0 + 1) (sequence_at b q)) (beyond b q) (light_drop (t.0 + 1) (sequence_at b q) s) (light_beyond b q h))
 
   pub light_at : (b : List Stmt) (p : Position) → AreLight b → IsLight (at b p)
-  light_at b p h = light_todos p.0 p.1 (drop p.1 (sequence b p.0)) (beyond b p.0) (light_drop p.1 (sequence b p.0) (light_sequence b p.0 h)) (light_beyond b p.0 h)
+  light_at b p h = light_todos p.0 p.1 (drop p.1 (sequence_at b p.0)) (beyond b p.0) (light_drop p.1 (sequence_at b p.0) (light_sequence b p.0 h)) (light_beyond b p.0 h)
 
-  pub light_into : (p : Position) (s : Basic) (k : ℕ) (c : Control) → weight_in s ≤ most → IsLight c → IsLight (into p s k c)
+  pub light_into : (p : Position) (s : Basic) (k : ℕ) (c : Control) → weight_in s ≤ most → IsLight c → IsLight (into_arm p s k c)
   light_into p s k c h l = light_todos (descent p k) 0 (arm s k) (behind p s k c) (light_part s k h) (light_behind p s k c h l)

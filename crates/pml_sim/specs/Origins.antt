@@ -5,7 +5,7 @@ use Rattle.promela_process.specs.Offers.{Offer}
 use Rattle.promela_run.specs.declared.moves.Move.{Move}
 use Rattle.promela_run.specs.declared.moves.Move.TheVariants.{Death, Alone, Pair}
 use Rattle.promela_run.specs.State.{State, picked}
-use Rattle.promela_run.specs.World.{proctype_of, origin_of, move_text}
+use Rattle.promela_run.specs.World.{sort_of_process, origin_of, move_text}
 
 -- `proc P (NAME) line L`, and more
 pub record Names (place : ℕ × ℕ) (text : List ℕ) : Type 0 where
@@ -20,7 +20,7 @@ IsOffered (Some o) = o.text ≢ []
 
 -- a move of a statement that is there, of two processes that of the sender; of a death the proctype is
 abbrev pub IsThere : State → Move → Type 0
-IsThere s (Death p) = IsSome (proctype_of s p)
+IsThere s (Death p) = IsSome (sort_of_process s p)
 IsThere s (Alone k t) = IsOffered (picked s k)
 IsThere s (Pair k j t) = IsOffered (picked s k)
 

@@ -7,12 +7,12 @@ ghost use Rattle.promela_run.specs.State.{State};
 ghost use Rattle.run_values.specs.Changed.{wanted_changes};
 ghost use Rattle.promela_run.specs.declared.moves.Move.{Move};
 ghost use Rattle.pml_sim.specs.Origins.{TextsNameOrigins};
-ghost use Rattle.promela_run.specs.World.{Running, first, changed_lines, step};
+ghost use Rattle.promela_run.specs.World.{Running, first, changed_lines, world_step};
 ghost use Rattle.pml_sim.specs.Lent.{changes, value_line};
 
 /// The numbers before the last step are those of the state before it, as far as its variables are still there.
 pub fn steps_lead_back()
-    ensures { (s t : Running) (m : Move) (printed : List ℕ) → step s m ≡ Goes t printed → t.past ≡ take (length t.state.frames) s.state.frames }
+    ensures { (s t : Running) (m : Move) (printed : List ℕ) → world_step s m ≡ Goes t printed → t.past ≡ take (length t.state.frames) s.state.frames }
 {}
 
 /// The text of a move names the process and the line that the move comes from, where its statement is there.

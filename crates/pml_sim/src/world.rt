@@ -112,7 +112,7 @@ impl<'p, 'a> World<'p, 'a> {
 
     /// All moves of the present state, in order; none, where it has stopped.
     pub fn moves(&self) -> Result<Vec<Move>, AllocError>
-        ensures { IfOk result (λ moves. moves.items ≡ world.moves self.now) }
+        ensures { IfOk result (λ moves. moves.items ≡ world.world_moves self.now) }
     {
         let mut moves = Vec::new(self.allocator());
         Machine::moves(self, &mut moves)?;
@@ -124,7 +124,7 @@ impl<'p, 'a> World<'p, 'a> {
     #[inline(always)]
     pub fn take(&mut self, m: &Move, text: &mut Vec<u8>) -> Result<(), Stop>
         requires present { CanBeTaken world.rules self.old m.now }
-        ensures step { Contains (world.moves self.old) m.now → TakesStep world.rules self.old m.now self.new text.old.items text.new.items result }
+        ensures step { Contains (world.world_moves self.old) m.now → TakesStep world.rules self.old m.now self.new text.old.items text.new.items result }
         ensures stopped { StaysStopped world.rules self.old self.new result }
         ensures model { self.new.state.program ≡ self.old.state.program }
         ensures kept { OnErr result (StartsWith text.new.items text.old.items) }

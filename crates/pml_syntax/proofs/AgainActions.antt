@@ -19,7 +19,7 @@ use Rattle.pml_syntax.specs.declared.starts.Change.{Change}
 use Rattle.pml_syntax.specs.declared.starts.Change.TheVariants as c
 use Rattle.promela_model.specs.GrammarOfExpressions as terms
 use Rattle.promela_model.specs.GrammarOfActions as grammar
-use Rattle.promela_model.specs.GrammarOfExpressions.{operator, truth, query, SpellsReference, SpellsExpr, SpellsArgument, SpellsArgumentList, SpellsArguments, SpellsList}
+use Rattle.promela_model.specs.GrammarOfExpressions.{operator, truth_of_word, query, SpellsReference, SpellsExpr, SpellsArgument, SpellsArgumentList, SpellsArguments, SpellsList}
 use Rattle.promela_model.specs.GrammarOfActions.{bang, SpellsRun, SpellsValues, SpellsAction}
 use Rattle.pml_expression.specs.Starts.{start}
 use Rattle.pml_syntax.specs.Starts.{deed, change}
@@ -225,7 +225,7 @@ record BeginsArguments (kind : Kind) : Type 0 where
   no_bracket : same_kind kind k.OpenBracket ≡ false
   no_less : same_kind kind k.Less ≡ false
 
-truth_arguments : (kind : Kind) (v : Bool) → truth kind ≡ Some v → BeginsArguments kind
+truth_arguments : (kind : Kind) (v : Bool) → truth_of_word kind ≡ Some v → BeginsArguments kind
 truth_arguments k.OpenBracket v h = absurd cc
 truth_arguments k.Less v h = absurd cc
 truth_arguments _ v h = record { no_bracket = refl; no_less = refl }

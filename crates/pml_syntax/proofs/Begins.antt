@@ -15,7 +15,7 @@ use Rattle.pml_tree.specs.declared.tree.Run.{Run}
 use Rattle.pml_tree.specs.declared.tree.Step.{Step}
 use Rattle.promela_model.specs.GrammarOfExpressions as terms
 use Rattle.promela_model.specs.GrammarOfActions as grammar
-use Rattle.promela_model.specs.GrammarOfExpressions.{operator, truth, fill, query, prefix_operator, SpellsIndex, SpellsFields, SpellsReference, SpellsExpr, SpellsArgument, SpellsArgumentList, SpellsArguments, SpellsList}
+use Rattle.promela_model.specs.GrammarOfExpressions.{operator, truth_of_word, fill, query, prefix_operator, SpellsIndex, SpellsFields, SpellsReference, SpellsExpr, SpellsArgument, SpellsArgumentList, SpellsArguments, SpellsList}
 use Rattle.promela_model.specs.GrammarOfActions.{bang, is_separator, is_exclusive, SpellsRun, SpellsValues, SpellsAction}
 use Rattle.pml_syntax.specs.Starts.{opening, declares}
 use Rattle.pml_syntax.specs.declared.starts.Opening.TheVariants as o
@@ -105,7 +105,7 @@ begins_expr k.Minus = true
 begins_expr k.OpenParen = true
 begins_expr _ = false
 
-truth_begins : (kind : Kind) (v : Bool) → truth kind ≡ Some v → begins_expr kind ≡ true
+truth_begins : (kind : Kind) (v : Bool) → truth_of_word kind ≡ Some v → begins_expr kind ≡ true
 truth_begins k.True v h = refl
 truth_begins k.Skip v h = refl
 truth_begins k.False v h = refl
@@ -242,7 +242,7 @@ pub record Other (kind : Kind) : Type 0 where
   pub no_paren : same_kind kind k.OpenParen ≡ false
   pub no_run : same_kind kind k.Run ≡ false
 
-truth_other : (kind : Kind) (v : Bool) → truth kind ≡ Some v → Other kind
+truth_other : (kind : Kind) (v : Bool) → truth_of_word kind ≡ Some v → Other kind
 truth_other k.Name v h = absurd cc
 truth_other k.OpenParen v h = absurd cc
 truth_other k.Run v h = absurd cc

@@ -19,7 +19,7 @@ use Rattle.promela_model.specs.GrammarOfExpressions as terms
 use Rattle.promela_model.specs.GrammarOfActions as grammar
 use Rattle.promela_model.specs.GrammarOfModels as bodies
 use Rattle.promela_model.specs.GrammarOfExpressions.{SpellsIndex, SpellsList}
-use Rattle.promela_model.specs.GrammarOfActions.{seq_of, proctype_of, SpellsName, SpellsVisibility, SpellsOpener, SpellsDeclaration}
+use Rattle.promela_model.specs.GrammarOfActions.{seq_of, proctype_tree, SpellsName, SpellsVisibility, SpellsOpener, SpellsDeclaration}
 use Rattle.promela_model.specs.GrammarOfModels.{SpellsItems, SpellsBody, SpellsSemicolons, SpellsMembers, SpellsParameter, SpellsMoreParameters, SpellsParameters, SpellsStarts, SpellsUnit, SpellsUnits, Spells}
 use Rattle.pml_syntax.specs.Starts.{head}
 use Rattle.pml_expression.specs.Reading.{pick, next, sees, expect, expr, is_empty}
@@ -306,7 +306,7 @@ module _ (depth : ℕ) where
       let t = expect_ok w.1 in
       let y = bind_ok w.2 in
       let braced = body_found w.0.1 y.0 y.1 in
-      done SpellsUnit y.2 (fronted SpellsUnit t (subst (λ (from : List Word). SpellsUnit (u.Proctype (proctype_of starting.Once w.0.0 [] (seq_of y.0.0.0) y.0.0.1)) (w.0.0 ∷ from) y.0.1) (sym braced.front) (bodies.init t.is braced.opens braced.spells braced.closes)))
+      done SpellsUnit y.2 (fronted SpellsUnit t (subst (λ (from : List Word). SpellsUnit (u.Proctype (proctype_tree starting.Once w.0.0 [] (seq_of y.0.0.0) y.0.0.1)) (w.0.0 ∷ from) y.0.1) (sym braced.front) (bodies.init t.is braced.opens braced.spells braced.closes)))
 
   variables_found : (ts : List Word) (x : ModelUnit × List Word) → reading.variables depth ts ≡ Ok x → SpellsUnit x.0 ts x.1
   unfolding reading.variables

@@ -11,7 +11,7 @@ use Rattle.pml_tree.specs.declared.tree.Reference.{Reference}
 use Rattle.pml_tree.specs.declared.tree.Action.TheVariants as a
 use Rattle.pml_tree.specs.declared.tree.Basic.TheVariants as b
 use Rattle.pml_tree.specs.declared.tree.Item.{Item}
-use Rattle.promela_model.specs.GrammarOfExpressions.{step_of, reference_of}
+use Rattle.promela_model.specs.GrammarOfExpressions.{named_step, reference_of}
 use Rattle.pml_expression.specs.Reading as expressions
 use Rattle.promela_model.specs.GrammarOfActions.{item_of, seq_of}
 use Rattle.promela_model.specs.GrammarOfModels.{SpellsItems}
@@ -25,7 +25,7 @@ name : List ℕ → ℕ → Word
 name text line = word k.Name text line
 
 plain_reference : Word → Reference
-plain_reference w = reference_of (step_of w None) []
+plain_reference w = reference_of (named_step w None) []
 
 -- `for (i : 1 .. n || 3) { x++; }`, the word on line 2, what stands behind it on line 3
 i : Word

@@ -18,7 +18,7 @@ use Rattle.promela_model.specs.declared.opener.Opener.{Opener}
 use Rattle.promela_model.specs.declared.opener.Opener.TheVariants as opener
 use Rattle.pml_syntax.specs.declared.starts.Head.{Head}
 use Rattle.pml_syntax.specs.declared.starts.Head.TheVariants as h
-use Rattle.promela_model.specs.GrammarOfActions.{variable_of, seq_of, proctype_of, tree_of}
+use Rattle.promela_model.specs.GrammarOfActions.{variable_of, seq_of, proctype_tree, tree_of}
 use Rattle.pml_syntax.specs.Starts.{declares, head}
 use Rattle.pml_syntax.specs.ReadingStatements.{skip_visibility, opener_of, declaration_from, items}
 
@@ -147,7 +147,7 @@ module _ (depth : ℕ) where
   unfoldable pub process : Starts → Word → List Variable → List Word → Read ModelUnit
   process s name vs ts = do
     x ← body ts
-    Ok (u.Proctype (proctype_of s name vs (seq_of x.0.0) x.0.1), x.1)
+    Ok (u.Proctype (proctype_tree s name vs (seq_of x.0.0) x.0.1), x.1)
 
   unfoldable pub proctype : List Word → Read ModelUnit
   proctype ts = do

@@ -14,7 +14,7 @@ use Rattle.promela_process.specs.Expressions.{Reading, Valued, Wanted, Placed, T
 use Rattle.promela_process.specs.declared.place.Place.{Place}
 use Rattle.promela_process.specs.Store.{ChannelState}
 use Rattle.promela_run.specs.declared.live_channel.LiveChannel.{LiveChannel}
-use Rattle.promela_run.specs.Statements.{with_fields, values, with_message, found, stores, taken_from, asserted}
+use Rattle.promela_run.specs.Statements.{place_with_fields, values, with_message, found, stores, taken_from, asserted}
 
 abbrev message : ℤ → ℤ → List ℤ
 message x y = x ∷ y ∷ []
@@ -47,13 +47,13 @@ sent_to_rendezvous : with_message Sorted (message (pos 1) (pos 1)) (holding 0 []
 sent_to_rendezvous = refl
 
 -- the channel is asked before the number of fields
-no_channel_first : with_fields 3 (pos 0) None ≡ Err NoSuchChannel
+no_channel_first : place_with_fields 3 (pos 0) None ≡ Err NoSuchChannel
 no_channel_first = refl
 
-too_many_fields : with_fields 3 (pos 1) (Some (holding 1 [])) ≡ Err WrongNumberOfFields
+too_many_fields : place_with_fields 3 (pos 1) (Some (holding 1 [])) ≡ Err WrongNumberOfFields
 too_many_fields = refl
 
-as_many_fields : with_fields 2 (pos 4) (Some (holding 1 [])) ≡ Ok 3
+as_many_fields : place_with_fields 2 (pos 4) (Some (holding 1 [])) ≡ Ok 3
 as_many_fields = refl
 
 -- `?` looks at the oldest message alone, `??` at the first that matches

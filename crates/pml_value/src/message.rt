@@ -3,7 +3,7 @@
 ghost use Rattle.std.specs.Prelude.{◌≡◌, ◌<◌, ◌≤◌, [], Ok, Err, IfOk, IfErr, OnOk, OnErr, length};
 ghost use Rattle.profile.specs.declared.TheConstants.{MOST_FIELDS};
 ghost use Rattle.pml_value.specs.declared.few.TheConstants.{FEW_FIELDS};
-ghost use Rattle.promela_run.specs.Statements.{named, contents_at, changed, values, with_message, addressed, asserted};
+ghost use Rattle.promela_run.specs.Statements.{place_named, contents_at, changed, values, with_message, addressed, asserted};
 ghost use Rattle.pml_value.specs.Seen.{seen};
 
 use crate::few::{FEW_FIELDS, FewFields};
@@ -21,7 +21,7 @@ use std::alloc::AllocError;
 
 /// The place among the live channels of the one that a variable names, where it has so many fields.
 pub fn named(view: &View<'_>, target: &Target, count: usize) -> Result<usize, Fault>
-    ensures value { result ≡ named view.now.channels.now (seen view.now) target.now count }
+    ensures value { result ≡ place_named view.now.channels.now (seen view.now) target.now count }
     ensures there { IfOk result (λ n. n < length view.now.channels.now) }
     ensures arity { IfOk result (λ n. count ≡ length (contents_at view.now.channels.now n).types) }
     ensures few { OnOk result (count ≤ MOST_FIELDS) }

@@ -2,7 +2,7 @@
 
 ghost use Rattle.std.specs.Prelude.{◌≡◌, IfOk, IfSome, Some};
 ghost use Rattle.promela_process.specs.Numbers.{clipped};
-ghost use Rattle.promela_run.specs.Statements.{goes, counted, outcome};
+ghost use Rattle.promela_run.specs.Statements.{goes, increased, outcome};
 ghost use Rattle.pml_value.specs.Takes.{IsIn};
 ghost use Rattle.pml_value.specs.Seen.{assigned, one_outcome, seen};
 
@@ -42,7 +42,7 @@ fn store_to(target: &Target, number: i32, view: &View<'_>) -> Result<Goes, Fault
 /// What a variable holds, and so much more.
 #[inline(always)]
 fn counted(target: &Target, by: i32, view: &View<'_>) -> Result<Option<Goes>, Fault>
-    ensures value { result ≡ counted target.now by (seen view.now) }
+    ensures value { result ≡ increased target.now by (seen view.now) }
     ensures there { IfOk result (λ s. IfSome s (IsIn view.now.store.now.frames)) }
 {
     let at = place(target, view)?;

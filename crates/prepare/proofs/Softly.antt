@@ -12,7 +12,8 @@ use Rattle.promela_text.specs.declared.lexeme.Lexeme.TheVariants.{Skipped, Token
 use Rattle.pml_token.specs.declared.token.Kind.{Kind}
 use Rattle.pml_token.specs.declared.token.Kind.TheVariants as kind
 use Rattle.promela_text.specs.Tables.{word_kind}
-use Rattle.promela_text.specs.Tokens.{is_blank, is_letter, is_digit, is_name_byte, is_in_line, class_of, fresh_from, is_line_feed}
+use Rattle.profile.specs.Characters.{is_digit}
+use Rattle.promela_text.specs.Tokens.{is_blank, is_letter, is_name_byte, is_in_line, class_of, fresh_from, is_line_feed}
 use Rattle.pml_lex.specs.Scanning.{comment_end, quote_end, slash, sign, hash, long_or_short, next_by, next, sign_of_one, sign_of_two}
 use Rattle.pml_lex.proofs.Ends.{IsWithin, comment_within}
 use Rattle.prepare.proofs.Stays.{head, Stops, size, what, stops, comment_stays, end_of, next_stays}

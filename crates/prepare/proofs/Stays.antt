@@ -15,7 +15,8 @@ use Rattle.pml_token.specs.declared.token.Kind.{Kind}
 use Rattle.pml_token.specs.declared.token.Kind.TheVariants as kind
 use Rattle.pml_token.specs.Word.{same_kind}
 use Rattle.promela_text.specs.Tables.{word_kind}
-use Rattle.promela_text.specs.Tokens.{is_digit, is_name_byte, is_in_line, is_line_mark, class_of}
+use Rattle.profile.specs.Characters.{is_digit}
+use Rattle.promela_text.specs.Tokens.{is_name_byte, is_in_line, is_line_mark, class_of}
 use Rattle.pml_lex.specs.Scanning.{Found, comment_end, quote_end, slash, sign, hash, long_or_short, next_by, next, sign_of_one, sign_of_two}
 use Rattle.pml_lex.proofs.Ends.{IsWithin, comment_within, quote_within}
 

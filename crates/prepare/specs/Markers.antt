@@ -2,8 +2,8 @@
 use Rattle.std.specs.Prelude.{ℕ, ◌+◌, ◌-◌, ◌*◌, Bool, not, ◌==◌, nat_eq, nat_le, nat_lt, if◌then◌else◌, List, [], ◌∷◌, take, drop, fold, min, Option, Some, None}
 use Rattle.std.specs.List.{prefix_len, starts_with}
 use lib.Chars.{codes}
-use Rattle.profile.specs.Characters.{hash, quote, zero_digit}
-use Rattle.promela_text.specs.Tokens.{is_digit, is_space}
+use Rattle.profile.specs.Characters.{hash, quote, zero_digit, is_digit}
+use Rattle.promela_text.specs.Tokens.{is_space}
 use Rattle.prepare.specs.declared.markers.TheConstants.{MOST_LINE}
 use Rattle.prepare.specs.Marker.{Marker}
 

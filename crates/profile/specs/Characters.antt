@@ -1,6 +1,6 @@
 -- Characters that definitions speak of, by their codes.
 -- Hold it against the codes of ASCII.
-use Rattle.std.specs.Prelude.{ℕ}
+use Rattle.std.specs.Prelude.{ℕ, Bool, nat_le, ◌&&◌}
 
 -- b'\t'
 abbrev pub tab : ℕ
@@ -45,6 +45,10 @@ zero_digit = 48
 -- b'9'
 abbrev pub nine_digit : ℕ
 nine_digit = 57
+
+-- from `0` to `9`
+abbrev pub is_digit : ℕ → Bool
+is_digit b = nat_le zero_digit b && nat_le b nine_digit
 
 -- b'A'
 abbrev pub upper_a : ℕ

@@ -24,7 +24,7 @@ use Rattle.promela_model.specs.declared.mark.Shape.{Shape}
 use Rattle.promela_model.specs.declared.mark.Holder.TheVariants.{Chan, Other}
 use Rattle.promela_model.specs.declared.condition.Condition.{Condition}
 use Rattle.promela_model.specs.declared.condition.Condition.TheVariants as condition
-use Rattle.promela_model.specs.Names.{Naming, is_any, is_pid, is_special, meaning, field, Before, stride, numeral, count_of, length_of}
+use Rattle.promela_model.specs.Names.{Naming, is_any, is_pid, is_special, meaning, field_of_type, Before, stride, numeral, count_of, length_of}
 
 -- ---- a label stands twice, or is missing
 
@@ -83,7 +83,7 @@ lacks_in _ rest = false
 -- one of these fields is missing, of what has this type
 abbrev pub lacks : Naming → Form → List Shape → Bool
 lacks names f [] = false
-lacks names f (s ∷ ss) = lacks_in (field names f s.name.text) (λ g. lacks names g ss)
+lacks names f (s ∷ ss) = lacks_in (field_of_type names f s.name.text) (λ g. lacks names g ss)
 
 -- where a variable or an mtype name is wanted
 abbrev pub lost : Naming → Option Thing → List Shape → Bool
@@ -159,7 +159,7 @@ is_unknown _ = false
 abbrev pub misfits : Naming → Use → Form → List Shape → Bool
 misfits names u f [] = misused u f
 misfits names u f (s ∷ ss) =
-    if is_unknown f then false else misfits_in s.indexed (field names f s.name.text) (λ g. misfits names u g ss)
+    if is_unknown f then false else misfits_in s.indexed (field_of_type names f s.name.text) (λ g. misfits names u g ss)
 
 -- what is declared by this name is used as something else
 abbrev pub wrong_thing : Naming → Use → Option Thing → Shape → List Shape → Bool

@@ -92,9 +92,9 @@ crosses labels r o _ = false
 -- ---- how many processes begin, and how many channels they and the globals make
 
 -- whether processes begin here
-abbrev pub begins : What → Bool
-begins (what.Starts c) = true
-begins _ = false
+abbrev pub starts_processes : What → Bool
+starts_processes (what.Starts c) = true
+starts_processes _ = false
 
 -- how many processes begin here: a count that is out of range is refused by itself
 abbrev pub started : What → ℕ
@@ -156,17 +156,17 @@ abbrev pub crosses_step : List Mark → List Mark → Mark → Bool
 crosses_step ms before m = crosses (labelled (reverse ms)) (round before) m.owner m.what
 
 -- a condition refuses the model with these marks
-abbrev pub Applies : Condition → List Mark → Type 0
-Applies condition.Break ms = Somewhere (λ before m. loose (round before) m.what) ms
-Applies condition.Step ms = Somewhere (crosses_step ms) ms
-Applies condition.NoProcess ms = Nowhere (λ before m. begins m.what) ms
-Applies condition.Start ms = (MOST_PROCESSES < processes ms) ⊎ (MOST_CHANNELS < first_channels ms)
-Applies r ms = Somewhere (broken r ms) ms
+abbrev pub AppliesToMarks : Condition → List Mark → Type 0
+AppliesToMarks condition.Break ms = Somewhere (λ before m. loose (round before) m.what) ms
+AppliesToMarks condition.Step ms = Somewhere (crosses_step ms) ms
+AppliesToMarks condition.NoProcess ms = Nowhere (λ before m. starts_processes m.what) ms
+AppliesToMarks condition.Start ms = (MOST_PROCESSES < processes ms) ⊎ (MOST_CHANNELS < first_channels ms)
+AppliesToMarks r ms = Somewhere (broken r ms) ms
 
 -- it does not
-abbrev pub Fits : Condition → List Mark → Type 0
-Fits condition.Break ms = Nowhere (λ before m. loose (round before) m.what) ms
-Fits condition.Step ms = Nowhere (crosses_step ms) ms
-Fits condition.NoProcess ms = Somewhere (λ before m. begins m.what) ms
-Fits condition.Start ms = (processes ms ≤ MOST_PROCESSES) × (first_channels ms ≤ MOST_CHANNELS)
-Fits r ms = Nowhere (broken r ms) ms
+abbrev pub FitsMarks : Condition → List Mark → Type 0
+FitsMarks condition.Break ms = Nowhere (λ before m. loose (round before) m.what) ms
+FitsMarks condition.Step ms = Nowhere (crosses_step ms) ms
+FitsMarks condition.NoProcess ms = Somewhere (λ before m. starts_processes m.what) ms
+FitsMarks condition.Start ms = (processes ms ≤ MOST_PROCESSES) × (first_channels ms ≤ MOST_CHANNELS)
+FitsMarks r ms = Nowhere (broken r ms) ms

@@ -107,8 +107,8 @@ abbrev pub range_of : Counter → Bound → Bound → Range
 range_of counter first last = record { counter = counter; first = first; last = last }
 
 -- a proctype, with the token that closes it
-abbrev pub proctype_of : Starts → Word → List Variable → Seq → Word → Proctype
-proctype_of starts name parameters body end = record { starts = starts; name = name; parameters = parameters; body = body; end = end }
+abbrev pub proctype_tree : Starts → Word → List Variable → Seq → Word → Proctype
+proctype_tree starts name parameters body end = record { starts = starts; name = name; parameters = parameters; body = body; end = end }
 
 -- the units of a model
 abbrev pub tree_of : List ModelUnit → Tree

@@ -78,11 +78,11 @@ prefix_operator k.Minus = Some prefixes.Minus
 prefix_operator _ = None
 
 -- `true` and `skip` are 1, `false` is 0
-abbrev pub truth : Kind → Option Bool
-truth k.True = Some true
-truth k.Skip = Some true
-truth k.False = Some false
-truth _ = None
+abbrev pub truth_of_word : Kind → Option Bool
+truth_of_word k.True = Some true
+truth_of_word k.Skip = Some true
+truth_of_word k.False = Some false
+truth_of_word _ = None
 
 -- what a word asks of how full a channel is
 abbrev pub fill : Kind → Option Fill
@@ -102,8 +102,8 @@ query _ = None
 -- ---- the trees, by their parts
 
 -- a name, and the index behind it, if there is one
-abbrev pub step_of : Word → Option Expr → Step
-step_of name index = roll-Step (record { name = name; index = index })
+abbrev pub named_step : Word → Option Expr → Step
+named_step name index = roll-Step (record { name = name; index = index })
 
 -- a name, and the fields behind it
 abbrev pub reference_of : Step → List Step → Reference
@@ -122,7 +122,7 @@ mutual
         → SpellsIndex (Some x) (o ∷ from) to
 
   pub data SpellsStep : Step → List Word → List Word → Type 0 where
-    step : {n : Word} {i : Option Expr} {from to : List Word} → n.kind ≡ k.Name → SpellsIndex i from to → SpellsStep (step_of n i) (n ∷ from) to
+    step : {n : Word} {i : Option Expr} {from to : List Word} → n.kind ≡ k.Name → SpellsIndex i from to → SpellsStep (named_step n i) (n ∷ from) to
 
   pub data SpellsFields : List Step → List Word → List Word → Type 0 where
     no_field : {to : List Word} → SpellsFields [] to to
@@ -135,7 +135,7 @@ mutual
 
   pub data SpellsExpr : ℕ → Expr → List Word → List Word → Type 0 where
     number : {least : ℕ} {n : Word} {to : List Word} → n.kind ≡ k.Number → SpellsExpr least (e.Number n) (n ∷ to) to
-    truth_value : {least : ℕ} {w : Word} {v : Bool} {to : List Word} → truth w.kind ≡ Some v → SpellsExpr least (e.Truth v) (w ∷ to) to
+    truth_value : {least : ℕ} {w : Word} {v : Bool} {to : List Word} → truth_of_word w.kind ≡ Some v → SpellsExpr least (e.Truth v) (w ∷ to) to
     timeout : {least : ℕ} {w : Word} {to : List Word} → w.kind ≡ k.Timeout → SpellsExpr least e.Timeout (w ∷ to) to
     read : {least : ℕ} {r : Reference} {from to : List Word} → SpellsReference r from to → SpellsExpr least (e.Read r) from to
     poll : {least : ℕ} {r : Reference} {q o c : Word} {look : Search} {xs : List Argument} {from middle to : List Word}
@@ -162,7 +162,7 @@ mutual
     into : {r : Reference} {from to : List Word} → SpellsReference r from to → SpellsArgument (g.Into r) from to
     exactly : {n : Word} {to : List Word} → n.kind ≡ k.Number → SpellsArgument (g.Exactly signs.Plus n) (n ∷ to) to
     exactly_minus : {m n : Word} {to : List Word} → m.kind ≡ k.Minus → n.kind ≡ k.Number → SpellsArgument (g.Exactly signs.Minus n) (m ∷ n ∷ to) to
-    fixed : {w : Word} {v : Bool} {to : List Word} → truth w.kind ≡ Some v → SpellsArgument (g.Fixed v) (w ∷ to) to
+    fixed : {w : Word} {v : Bool} {to : List Word} → truth_of_word w.kind ≡ Some v → SpellsArgument (g.Fixed v) (w ∷ to) to
     eval : {v o c : Word} {x : Expr} {from to : List Word} → v.kind ≡ k.Eval → o.kind ≡ k.OpenParen → SpellsExpr 1 x from (c ∷ to) → c.kind ≡ k.CloseParen
         → SpellsArgument (g.Eval x) (v ∷ o ∷ from) to
 

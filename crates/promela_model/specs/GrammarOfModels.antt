@@ -20,7 +20,7 @@ use Rattle.pml_tree.specs.declared.tree.Seq.{Seq}
 use Rattle.promela_model.specs.declared.range.Bound.{Bound}
 use Rattle.promela_model.specs.declared.range.Range.{Range}
 use Rattle.promela_model.specs.GrammarOfExpressions.{between, SpellsReference, SpellsExpr, SpellsList}
-use Rattle.promela_model.specs.GrammarOfActions.{is_exclusive, is_separator, item_of, seq_of, counter_of, bound_of, range_of, SpellsAction, SpellsDeclaration, variable_of, proctype_of, tree_of, SpellsName, SpellsVisibility, SpellsOpener}
+use Rattle.promela_model.specs.GrammarOfActions.{is_exclusive, is_separator, item_of, seq_of, counter_of, bound_of, range_of, SpellsAction, SpellsDeclaration, variable_of, proctype_tree, tree_of, SpellsName, SpellsVisibility, SpellsOpener}
 use Rattle.pml_tree.specs.declared.tree.Scalar.{Scalar}
 use Rattle.pml_tree.specs.declared.tree.Sort.TheVariants as sort
 use Rattle.pml_tree.specs.declared.tree.Starts.{Starts}
@@ -41,12 +41,12 @@ pub data SpellsRange (kind : Kind) : Range → List Word → List Word → Type 
       → SpellsRange kind (range_of (counter_of w.line i (between from (c ∷ first))) (bound_of x (between first (d ∷ last))) (bound_of y (between last (z ∷ to)))) (w ∷ o ∷ from) to
 
 -- A token that the text has not is on the line of the word.
-abbrev pub made : Kind → List ℕ → ℕ → Word
-made kind text line = record { kind = kind; text = text; line = line }
+abbrev pub made_word : Kind → List ℕ → ℕ → Word
+made_word kind text line = record { kind = kind; text = text; line = line }
 
 -- `i = a`
 abbrev pub setting : ℕ → Reference → List Word → Bound → Item
-setting line i named x = item_of [] (b.Plain (a.Assign i x.value)) (named ++ made k.Assign (codes "=") line ∷ x.tokens)
+setting line i named x = item_of [] (b.Plain (a.Assign i x.value)) (named ++ made_word k.Assign (codes "=") line ∷ x.tokens)
 
 -- `i <= b` or `i < b`, where b is the whole right side
 abbrev pub comparing : Infix → Word → Reference → List Word → Bound → Item
@@ -54,23 +54,23 @@ comparing o word i named y = item_of [] (b.Plain (a.Holds (e.Binary o (e.Read i)
 
 -- `i++`
 abbrev pub raising : ℕ → Reference → List Word → Item
-raising line i named = item_of [] (b.Plain (a.Increment i)) (named ++ made k.Increment (codes "++") line ∷ [])
+raising line i named = item_of [] (b.Plain (a.Increment i)) (named ++ made_word k.Increment (codes "++") line ∷ [])
 
 -- `else`
 abbrev pub otherwise_item : ℕ → Item
-otherwise_item line = item_of [] (b.Plain a.Else) (made k.Else (codes "else") line ∷ [])
+otherwise_item line = item_of [] (b.Plain a.Else) (made_word k.Else (codes "else") line ∷ [])
 
 -- `break`
 abbrev pub breaking : ℕ → Item
-breaking line = item_of [] b.Break (made k.Break (codes "break") line ∷ [])
+breaking line = item_of [] b.Break (made_word k.Break (codes "break") line ∷ [])
 
 -- `do OPTIONS od`
 abbrev pub turning : ℕ → List Seq → Item
-turning line options = item_of [] (b.Do options) (made k.Do (codes "do") line ∷ [])
+turning line options = item_of [] (b.Do options) (made_word k.Do (codes "do") line ∷ [])
 
 -- `i <= b`
 abbrev pub at_most : ℕ → Reference → List Word → Bound → Item
-at_most line compared named y = comparing op.AtMost (made k.AtMost (codes "<=") line) compared named y
+at_most line compared named y = comparing op.AtMost (made_word k.AtMost (codes "<=") line) compared named y
 
 -- `:: i <= b -> S; i++` and `:: else -> break`
 abbrev pub for_on : ℕ → Reference → Reference → List Word → Bound → List Item → Seq
@@ -82,7 +82,7 @@ for_out line = seq_of (otherwise_item line ∷ breaking line ∷ [])
 
 -- `:: i < b -> i++` and `:: break`
 abbrev pub select_on : ℕ → Reference → Reference → List Word → Bound → Seq
-select_on line compared raised named y = seq_of (comparing op.Below (made k.Less (codes "<") line) compared named y ∷ raising line raised named ∷ [])
+select_on line compared raised named y = seq_of (comparing op.Below (made_word k.Less (codes "<") line) compared named y ∷ raising line raised named ∷ [])
 
 -- `:: break`
 abbrev pub select_out : ℕ → Seq
@@ -239,9 +239,9 @@ pub data SpellsUnit : ModelUnit → List Word → List Word → Type 0 where
   proctype : {s : Starts} {p n o c d z : Word} {vs : List Variable} {xs : List Item} {from inner body to : List Word}
       → SpellsStarts s from (p ∷ n ∷ o ∷ inner) → p.kind ≡ k.Proctype → n.kind ≡ k.Name → o.kind ≡ k.OpenParen
       → SpellsParameters vs inner (c ∷ d ∷ body) → c.kind ≡ k.CloseParen → d.kind ≡ k.OpenBrace → SpellsBody xs body (z ∷ to) → z.kind ≡ k.CloseBrace
-      → SpellsUnit (u.Proctype (proctype_of s n vs (seq_of xs) z)) from to
+      → SpellsUnit (u.Proctype (proctype_tree s n vs (seq_of xs) z)) from to
   init : {w o c : Word} {xs : List Item} {from to : List Word} → w.kind ≡ k.Init → o.kind ≡ k.OpenBrace → SpellsBody xs from (c ∷ to) → c.kind ≡ k.CloseBrace
-      → SpellsUnit (u.Proctype (proctype_of starts.Once w [] (seq_of xs) c)) (w ∷ o ∷ from) to
+      → SpellsUnit (u.Proctype (proctype_tree starts.Once w [] (seq_of xs) c)) (w ∷ o ∷ from) to
 
 -- units up to the end
 pub data SpellsUnits : List ModelUnit → List Word → Type 0 where

@@ -38,8 +38,8 @@ numeral cs = if nat_lt (spelled 0 cs) 4294967296 then Some (spelled 0 cs) else N
 
 -- the value of a number's digits: one above 2147483647 is the signed number of the same bits, and one of more than
 -- 32 bits is refused by itself
-abbrev pub number : List ℕ → Constant
-number cs = option_map_or (λ n. Is (cast_signed w32 n)) (numeral cs) Faulty
+abbrev pub number_from_digits : List ℕ → Constant
+number_from_digits cs = option_map_or (λ n. Is (cast_signed w32 n)) (numeral cs) Faulty
 
 -- the value behind a minus sign, of 32 bits
 abbrev pub negated : Constant → Constant
@@ -56,11 +56,11 @@ applied op.Remainder x y = if int_eq y (pos 0) then Faulty else Is (int_rem x y)
 applied _ x y = Faulty
 
 -- the value of two operands: what is open in either stays open, and else a fault in either is a fault
-abbrev pub joined : Infix → Constant → Constant → Constant
-joined o Open b = Open
-joined o a Open = Open
-joined o (Is x) (Is y) = applied o x y
-joined o a b = Faulty
+abbrev pub joined_constants : Infix → Constant → Constant → Constant
+joined_constants o Open b = Open
+joined_constants o a Open = Open
+joined_constants o (Is x) (Is y) = applied o x y
+joined_constants o a b = Faulty
 
 -- whether constant expressions have this operator
 abbrev pub is_constant : Infix → Bool
@@ -78,10 +78,10 @@ truth_of false = pos 0
 
 -- the value of an expression by those of its parts; of the operators before a part a minus sign alone keeps it known
 abbrev pub constant_layer : Expr-F (Unit {0}) Constant (Unit {0}) (Unit {0}) → Constant
-constant_layer (Expr-F.Number n) = number n.text
+constant_layer (Expr-F.Number n) = number_from_digits n.text
 constant_layer (Expr-F.Truth b) = Is (truth_of b)
 constant_layer (Expr-F.Unary prefix.Minus a) = negated a
-constant_layer (Expr-F.Binary o a b) = if is_constant o then joined o a b else Open
+constant_layer (Expr-F.Binary o a b) = if is_constant o then joined_constants o a b else Open
 constant_layer _ = Open
 
 -- what an expression gives as a constant expression
@@ -99,8 +99,8 @@ length_of (Some (Is (pos n))) = if nat_lt 0 n && nat_lt n (MOST_CELLS + 1) then 
 length_of _ = 1
 
 -- cells are counted up to one more than there may be
-abbrev pub counted : ℕ → ℕ
-counted n = min n (MOST_CELLS + 1)
+abbrev pub cells_counted : ℕ → ℕ
+cells_counted n = min n (MOST_CELLS + 1)
 
 -- ---- names
 
@@ -138,9 +138,9 @@ abbrev pub meaning : Naming → Naming → ℕ → List ℕ → Option Thing
 meaning all names o n = option_or (names o n) (option_or (names 0 n) (only_process (all 0 n)))
 
 -- what stands for a field of this type: nothing where it is no typedef's, None where the typedef lacks it
-abbrev pub field : Naming → Form → List ℕ → Option (Option Thing)
-field names (kind.Struct t) n = Some (names t n)
-field names _ n = None
+abbrev pub field_of_type : Naming → Form → List ℕ → Option (Option Thing)
+field_of_type names (kind.Struct t) n = Some (names t n)
+field_of_type names _ n = None
 
 -- ---- the type of a variable
 
@@ -187,11 +187,11 @@ thing_of b o (declared_as.Variable x s size makes) =
       array = is_some size;
       length = length_of size;
       stride = stride b.names (user x o) s;
-      offset = counted (b.cells o);
+      offset = cells_counted (b.cells o);
       number = b.variables o;
     })
 thing_of b o declared_as.Constant = thing.Constant (b.constants + 1)
-thing_of b o (declared_as.Typedef t) = thing.Typedef t (counted (b.cells t))
+thing_of b o (declared_as.Typedef t) = thing.Typedef t (cells_counted (b.cells t))
 thing_of b o (declared_as.Proctype p n) = thing.Proctype p n
 
 -- how many cells a variable has

@@ -26,14 +26,14 @@ use Rattle.pml_tree.specs.declared.tree.Argument.{Argument}
 use Rattle.pml_tree.specs.declared.tree.Argument.TheVariants as g
 use Rattle.pml_tree.specs.declared.tree.Reference.{Reference}
 use Rattle.pml_tree.specs.declared.tree.Step.{Step}
-use Rattle.promela_model.specs.GrammarOfExpressions.{step_of, reference_of}
+use Rattle.promela_model.specs.GrammarOfExpressions.{named_step, reference_of}
 use Rattle.pml_program.specs.declared.expr.Expr.{Expr}
 use Rattle.pml_program.specs.declared.expr.Expr.TheVariants as v
 use Rattle.pml_program.specs.declared.expr.Want.{Want}
 use Rattle.pml_program.specs.declared.expr.Want.TheVariants as w
 use Rattle.pml_program.specs.declared.expr.Target.{Target, roll-Target}
 use Rattle.pml_program.specs.declared.expr.Turn.{Turn, roll-Turn}
-use Rattle.promela_model.specs.Names.{number as number_of, negated, truth_of}
+use Rattle.promela_model.specs.Names.{number_from_digits as number_of, negated, truth_of}
 use Rattle.promela_model.specs.Marks.{is_proctype}
 
 -- ---- what is declared before a place
@@ -124,9 +124,9 @@ nothing_of us = record { text = us; variables = []; constants = []; typedefs = [
 -- ---- cells
 
 -- how many cells variables have
-abbrev pub cells : List Slot → ℕ
-cells [] = 0
-cells (s ∷ ss) = s.length * s.stride + cells ss
+abbrev pub cells_in_all : List Slot → ℕ
+cells_in_all [] = 0
+cells_in_all (s ∷ ss) = s.length * s.stride + cells_in_all ss
 
 -- ---- the trees, by their parts
 
@@ -194,7 +194,7 @@ mutual
 
   -- a name, and what its index stands for
   pub data StandsStep (gs : Globals) (ls : List Slot) : Step → List ℕ → Option Expr → Type 0 where
-    step : {n : Word} {i : Option TreeExpr} {x : Option Expr} → StandsIndex gs ls i x → StandsStep gs ls (step_of n i) n.text x
+    step : {n : Word} {i : Option TreeExpr} {x : Option Expr} → StandsIndex gs ls i x → StandsStep gs ls (named_step n i) n.text x
 
   -- the fields behind a place of one type: the type that is reached, and the turns that lead there
   pub data StandsFields (gs : Globals) (ls : List Slot) : Form → List Step → Form → List Turn → Type 0 where

@@ -24,7 +24,7 @@ use Rattle.pml_tree.specs.declared.tree.Basic.TheVariants as form
 use Rattle.pml_tree.specs.declared.tree.Item.{Item}
 use Rattle.pml_tree.specs.declared.tree.Seq.{Seq as TreeSeq}
 use Rattle.promela_model.specs.GrammarOfActions.{item_of, seq_of}
-use Rattle.promela_model.specs.Names.{constant, numeral, count_of, length_of, counted}
+use Rattle.promela_model.specs.Names.{constant, numeral, count_of, length_of, cells_counted}
 use Rattle.promela_model.specs.declared.mark.Role.{Role}
 use Rattle.promela_model.specs.declared.mark.Role.TheVariants as role
 use Rattle.pml_program.specs.declared.form.Form.{Form}
@@ -42,7 +42,7 @@ use Rattle.pml_program.specs.declared.program.Basic.{Basic}
 use Rattle.pml_program.specs.declared.program.Basic.TheVariants as b
 use Rattle.pml_program.specs.declared.program.Stmt.{Stmt, roll-Stmt}
 use Rattle.pml_program.specs.declared.program.Seq.{Seq, roll-Seq}
-use Rattle.promela_model.specs.Stands.{Meaning, Place, as_place, StandsExpr, StandsReference, StandsArguments, Globals, Structure, variable_named, typedef_named, proctype_named, cells, is_declared, with_constant, with_typedef, with_proctype, nothing_of}
+use Rattle.promela_model.specs.Stands.{Meaning, Place, as_place, StandsExpr, StandsReference, StandsArguments, Globals, Structure, variable_named, typedef_named, proctype_named, cells_in_all, is_declared, with_constant, with_typedef, with_proctype, nothing_of}
 use Rattle.pml_tree.specs.declared.tree.Starts.{Starts}
 use Rattle.pml_tree.specs.declared.tree.Starts.TheVariants as starts
 use Rattle.pml_tree.specs.declared.tree.Proctype.{Proctype as TreeProctype}
@@ -60,7 +60,7 @@ pub data StandsSort (gs : Globals) (ls : List Slot) : Sort → Form → ℕ → 
   plain_sort : (s : Scalar) → StandsSort gs ls (sort.Plain s) (kind.Plain s) 1
   unsigned_sort : (n : Word) → StandsSort gs ls (sort.Unsigned n) (kind.Unsigned (unwrap_or (numeral n.text) 0)) 1
   typedef_sort : {n : Word} {x : Structure} → variable_named ls n.text ≡ None → typedef_named gs.typedefs n.text ≡ Some x
-      → StandsSort gs ls (sort.Named n) (kind.Struct x.number) (counted (cells x.fields))
+      → StandsSort gs ls (sort.Named n) (kind.Struct x.number) (cells_counted (cells_in_all x.fields))
   hidden_sort : {n : Word} {k : ℕ} {s : Slot} → variable_named ls n.text ≡ Some (k, s) → StandsSort gs ls (sort.Named n) kind.Unknown 1
   lost_sort : {n : Word} → typedef_named gs.typedefs n.text ≡ None → StandsSort gs ls (sort.Named n) kind.Unknown 1
 
@@ -78,7 +78,7 @@ pub data StandsVariable (gs : Globals) (ls before : List Slot) : Variable → Sl
         name = v.name;
         form = f;
         array = is_some v.size;
-        offset = counted (cells before);
+        offset = cells_counted (cells_in_all before);
         length = length_of (option_map constant v.size);
         stride = width;
         initial = x;

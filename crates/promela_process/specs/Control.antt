@@ -65,28 +65,28 @@ behind p (Unless s e) zero c = Under p e ∷ c
 behind p s k c = c
 
 -- an arm of a statement, before c
-abbrev pub into : Position → Basic → ℕ → Control → Control
-into p s k c = todos (descent p k) 0 (arm s k) (behind p s k c)
+abbrev pub into_arm : Position → Basic → ℕ → Control → Control
+into_arm p s k c = todos (descent p k) 0 (arm s k) (behind p s k c)
 
 -- the statement at a position of a sequence without its labels, if there is one
 abbrev pub basic_at : List Stmt → ℕ → Option Basic
 basic_at ss i = option_map (λ (s : Stmt). s.basic) (slice_get ss i)
 
 -- the sequence that these descents lead to
-abbrev pub sequence : List Stmt → List Descent → List Stmt
-sequence b [] = b
-sequence b (t ∷ q) = unwrap_or (option_map (λ (s : Stmt). arm s.basic t.1) (slice_get (sequence b q) t.0)) []
+abbrev pub sequence_at : List Stmt → List Descent → List Stmt
+sequence_at b [] = b
+sequence_at b (t ∷ q) = unwrap_or (option_map (λ (s : Stmt). arm s.basic t.1) (slice_get (sequence_at b q) t.0)) []
 
 -- what is to do after it
 abbrev pub beyond : List Stmt → List Descent → Control
 beyond b [] = []
 beyond b (t ∷ q) =
-    let rest = todos q (t.0 + 1) (drop (t.0 + 1) (sequence b q)) (beyond b q) in
-    unwrap_or (option_map (λ (s : Stmt). behind (q, t.0) s.basic t.1 rest) (slice_get (sequence b q) t.0)) []
+    let rest = todos q (t.0 + 1) (drop (t.0 + 1) (sequence_at b q)) (beyond b q) in
+    unwrap_or (option_map (λ (s : Stmt). behind (q, t.0) s.basic t.1 rest) (slice_get (sequence_at b q) t.0)) []
 
 -- what is to do from a position on
 abbrev pub at : List Stmt → Position → Control
-at b p = todos p.0 p.1 (drop p.1 (sequence b p.0)) (beyond b p.0)
+at b p = todos p.0 p.1 (drop p.1 (sequence_at b p.0)) (beyond b p.0)
 
 -- all statements with their positions, in text order
 abbrev mutual
@@ -116,23 +116,23 @@ abbrev pub all_of : Seq → List (Position × Stmt)
 all_of b = all_seq [] b
 
 -- whether a label is one of these
-abbrev pub is_among : List ℕ → List Word → Bool
-is_among l ls = list_any (λ (w : Word). bytes_eq l w.text) ls
+abbrev pub is_label_among : List ℕ → List Word → Bool
+is_label_among l ls = list_any (λ (w : Word). bytes_eq l w.text) ls
 
 -- the position of the first statement that has the label
 abbrev pub position_of : List ℕ → List (Position × Stmt) → Option Position
 position_of l [] = None
-position_of l (e ∷ es) = if is_among l e.1.labels then Some e.0 else position_of l es
+position_of l (e ∷ es) = if is_label_among l e.1.labels then Some e.0 else position_of l es
 
 -- what is to do from a label on, if there is one
 abbrev pub at_label : Seq → List ℕ → Control
 at_label b l = unwrap_or (option_map (at (steps b)) (position_of l (all_of b))) []
 
 -- what follows the innermost do
-abbrev pub broken : Control → Control
-broken [] = []
-broken (Back p s ∷ c) = c
-broken (f ∷ c) = broken c
+abbrev pub behind_break : Control → Control
+behind_break [] = []
+behind_break (Back p s ∷ c) = c
+behind_break (f ∷ c) = behind_break c
 
 -- whether control is in a d_step
 abbrev pub in_d_step : Control → Bool
@@ -144,11 +144,11 @@ in_d_step (f ∷ c) = in_d_step c
 abbrev pub move_on : Seq → Control → Option Control
 move_on b [] = None
 move_on b (Todo p (Goto l) ∷ c) = Some (at_label b l.text)
-move_on b (Todo p Break ∷ c) = Some (broken c)
-move_on b (Todo p (Block s) ∷ c) = Some (into p (Block s) 0 c)
-move_on b (Todo p (Atomic s) ∷ c) = Some (into p (Atomic s) 0 c)
-move_on b (Todo p (Unless s e) ∷ c) = Some (into p (Unless s e) 0 c)
-move_on b (Todo p (DStep s) ∷ c) = if in_d_step c then Some (into p (DStep s) 0 c) else None
+move_on b (Todo p Break ∷ c) = Some (behind_break c)
+move_on b (Todo p (Block s) ∷ c) = Some (into_arm p (Block s) 0 c)
+move_on b (Todo p (Atomic s) ∷ c) = Some (into_arm p (Atomic s) 0 c)
+move_on b (Todo p (Unless s e) ∷ c) = Some (into_arm p (Unless s e) 0 c)
+move_on b (Todo p (DStep s) ∷ c) = if in_d_step c then Some (into_arm p (DStep s) 0 c) else None
 move_on b (Todo p s ∷ c) = None
 move_on b (Back p s ∷ c) = Some (Todo p s ∷ c)
 move_on b (f ∷ c) = Some c
@@ -207,7 +207,7 @@ LiesIn p (f ∷ c) = LiesIn p c
 pub record BadFirstPoint (b : Seq) : Type 0 where
   pub position : Position
   pub body : Seq
-  pub stands : basic_at (sequence (steps b) position.0) position.1 ≡ Some (DStep body)
+  pub stands : basic_at (sequence_at (steps b) position.0) position.1 ≡ Some (DStep body)
   pub point : Control
   pub comes : Comes b (at (steps b) (descent position 0, 0)) point
   pub settled : IsSettled b point
@@ -216,5 +216,5 @@ pub record BadFirstPoint (b : Seq) : Type 0 where
 -- each d_step's first point, where there is one, begins with no else and lies in it
 abbrev pub FirstPointsFit : Seq → Type 0
 FirstPointsFit b =
-    (p : Position) (s : Seq) → basic_at (sequence (steps b) p.0) p.1 ≡ Some (DStep s) → (c : Control) → Comes b (at (steps b) (descent p 0, 0)) c
+    (p : Position) (s : Seq) → basic_at (sequence_at (steps b) p.0) p.1 ≡ Some (DStep s) → (c : Control) → Comes b (at (steps b) (descent p 0, 0)) c
     → IsSettled b c → (begins_else c ≡ false) × LiesIn p c

@@ -16,20 +16,20 @@ use Rattle.pml_program.specs.declared.form.Form.{Form}
 use Rattle.pml_program.specs.declared.expr.Target.{Target, Target-F, fold-Target}
 use Rattle.pml_program.specs.declared.expr.Turn.{Turn, Turn-F, fold-Turn}
 use Rattle.promela_process.specs.declared.place.Place.{Place}
-use Rattle.promela_process.specs.Numbers.{truth, is_zero, prefixed, infixed, decided}
+use Rattle.promela_process.specs.Numbers.{truth_number, is_zero, prefixed, infixed, decided}
 
 -- a number matches an equal field, a place and `_` match every field
-abbrev pub taken : Sought → ℤ → Bool
-taken (Exactly n) x = int_eq n x
-taken (Into p form) x = true
-taken Anything x = true
+abbrev pub matches_field : Sought → ℤ → Bool
+matches_field (Exactly n) x = int_eq n x
+matches_field (Into p form) x = true
+matches_field Anything x = true
 
 -- each field is what is asked for it, and there are as many
 abbrev pub matched : List Sought → List ℤ → Bool
 matched [] [] = true
 matched [] (x ∷ xs) = false
 matched (w ∷ ws) [] = false
-matched (w ∷ ws) (x ∷ xs) = taken w x && matched ws xs
+matched (w ∷ ws) (x ∷ xs) = matches_field w x && matched ws xs
 
 -- a channel as an expression sees it: how many messages and fields it may have, and its messages
 pub record Filling : Type 0 where
@@ -57,10 +57,10 @@ abbrev pub ◌>>=◌ : {A B : Type 0} → Result A Fault → (A → Result B Fau
 -- what is asked of how full a channel is
 abbrev pub filled : Fill → Filling → ℤ
 filled Length c = pos (length c.messages)
-filled IsEmpty c = truth (length c.messages == 0)
-filled IsFull c = truth (not (nat_lt (length c.messages) c.capacity))
-filled IsNotEmpty c = truth (not (length c.messages == 0))
-filled IsNotFull c = truth (nat_lt (length c.messages) c.capacity)
+filled IsEmpty c = truth_number (length c.messages == 0)
+filled IsFull c = truth_number (not (nat_lt (length c.messages) c.capacity))
+filled IsNotEmpty c = truth_number (not (length c.messages == 0))
+filled IsNotFull c = truth_number (nat_lt (length c.messages) c.capacity)
 
 -- whether the oldest message matches, or any
 abbrev pub is_match : Search → List Sought → List (List ℤ) → Bool
@@ -73,16 +73,16 @@ abbrev pub polled : Search → ℕ → Result (List Sought) Fault → Option Fil
 polled search count wants None = Err NoSuchChannel
 polled search count wants (Some c) =
     if not (count == c.fields) then Err WrongNumberOfFields
-    else (if length c.messages == 0 || c.capacity == 0 then Ok (pos 0) else (wants >>= λ ws. Ok (truth (is_match search ws c.messages))))
+    else (if length c.messages == 0 || c.capacity == 0 then Ok (pos 0) else (wants >>= λ ws. Ok (truth_number (is_match search ws c.messages))))
 
 -- an index within its array
-abbrev pub within : ℕ → ℤ → Result ℕ Fault
-within size (pos i) = if nat_lt i size then Ok i else Err IndexOutOfRange
-within size (negsuc i) = Err IndexOutOfRange
+abbrev pub index_inside : ℕ → ℤ → Result ℕ Fault
+index_inside size (pos i) = if nat_lt i size then Ok i else Err IndexOutOfRange
+index_inside size (negsuc i) = Err IndexOutOfRange
 
 -- a cell of a variable that has so many; in a checked model only an index leads out of its variable
-abbrev pub inside : ℕ → ℕ → Result ℕ Fault
-inside whole cell = if nat_lt cell whole then Ok cell else Err IndexOutOfRange
+abbrev pub cell_inside : ℕ → ℕ → Result ℕ Fault
+cell_inside whole cell = if nat_lt cell whole then Ok cell else Err IndexOutOfRange
 
 -- ---- one level of the tree, each part replaced by what it gives
 
@@ -113,7 +113,7 @@ abbrev pub value_step : Expr-F Valued Wanted Placed Turned → Valued
 value_step (Expr-F.Number n) r = Ok n
 value_step Expr-F.Pid r = Ok r.pid
 value_step Expr-F.ProcessCount r = Ok r.process_count
-value_step Expr-F.Timeout r = Ok (truth r.timeout)
+value_step Expr-F.Timeout r = Ok (truth_number r.timeout)
 value_step (Expr-F.Read p) r = p.lies r >>= λ at. Ok (r.holds at)
 value_step (Expr-F.Ask fill p) r = p.lies r >>= λ at. ok_or (option_map (filled fill) (r.channel (r.holds at))) NoSuchChannel
 value_step (Expr-F.Poll p search args) r = p.lies r >>= λ at. polled search (length args) (wants_of args r) (r.channel (r.holds at))
@@ -131,13 +131,13 @@ want_step Want-F.Anything r = Ok Anything
 -- from a cell on by each turn, never out of the whole
 abbrev pub cells_of : List Turned → ℕ → ℕ → Reading → Result ℕ Fault
 cells_of [] whole cell r = Ok cell
-cells_of (s ∷ ss) whole cell r = s r >>= λ n. inside whole (cell + n) >>= λ c. cells_of ss whole c r
+cells_of (s ∷ ss) whole cell r = s r >>= λ n. cell_inside whole (cell + n) >>= λ c. cells_of ss whole c r
 
 -- the cell of a variable of a frame that turns lead to
 abbrev pub cell_in : ℕ → ℕ → List Turned → Reading → Result Place Fault
 cell_in frame variable turns r =
     let whole = r.cells frame variable in
-    inside whole 0 >>= λ c. cells_of turns whole c r >>= λ cell. Ok (record { frame = frame; variable = variable; cell = cell })
+    cell_inside whole 0 >>= λ c. cells_of turns whole c r >>= λ cell. Ok (record { frame = frame; variable = variable; cell = cell })
 
 -- where a target lies by its turns
 abbrev pub target_step : Target-F Valued Wanted Placed Turned → Placed
@@ -146,7 +146,7 @@ target_step p = record { form = p.form; lies = λ r. cell_in (r.frame p.local) p
 -- the value of an index, which is within its array, or a fault
 abbrev pub index_of : Option Valued → ℕ → Reading → Result ℕ Fault
 index_of None length r = Ok 0
-index_of (Some a) length r = a r >>= within length
+index_of (Some a) length r = a r >>= index_inside length
 
 -- how far a turn leads: its offset, and its stride for each place before the index
 abbrev pub turn_step : Turn-F Valued Wanted Placed Turned → Turned
@@ -159,16 +159,16 @@ abbrev pub val : Expr → Valued
 val = fold-Expr Valued Wanted Placed Turned value_step want_step target_step turn_step
 
 -- a target, with its type and where it lies
-abbrev pub placed : Target → Placed
-placed = fold-Target Valued Wanted Placed Turned value_step want_step target_step turn_step
+abbrev pub placed_target : Target → Placed
+placed_target = fold-Target Valued Wanted Placed Turned value_step want_step target_step turn_step
 
 -- the cell of a target, or its fault
 abbrev pub place : Target → Reading → Result Place Fault
-place t = (placed t).lies
+place t = (placed_target t).lies
 
 -- how far a turn leads into a variable
-abbrev pub cells : Turn → Turned
-cells = fold-Turn Valued Wanted Placed Turned value_step want_step target_step turn_step
+abbrev pub turned_by : Turn → Turned
+turned_by = fold-Turn Valued Wanted Placed Turned value_step want_step target_step turn_step
 
 -- what a receive asks for one field
 abbrev pub want : Want → Wanted

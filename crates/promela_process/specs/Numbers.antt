@@ -46,20 +46,20 @@ residue n (pos a) = a % 2 ^ n
 residue n (negsuc a) = 2 ^ n - 1 - a % 2 ^ n
 
 -- with a sign, the upper half stands for the numbers below 0
-abbrev pub placed : Bool → ℕ → ℕ → ℤ
-placed false n low = pos low
-placed true n low = if nat_lt low (2 ^ (n - 1)) then pos low else pos low -ℤ pos (2 ^ n)
+abbrev pub signed_part : Bool → ℕ → ℕ → ℤ
+signed_part false n low = pos low
+signed_part true n low = if nat_lt low (2 ^ (n - 1)) then pos low else pos low -ℤ pos (2 ^ n)
 
 -- what a variable of a type keeps of a number
 abbrev pub clipped : Form → ℤ → ℤ
-clipped form v = placed (is_signed form) (bits_of form) (residue (bits_of form) v)
+clipped form v = signed_part (is_signed form) (bits_of form) (residue (bits_of form) v)
 
 -- ---- operators
 
 -- a truth is 1 or 0
-abbrev pub truth : Bool → ℤ
-truth true = pos 1
-truth false = pos 0
+abbrev pub truth_number : Bool → ℤ
+truth_number true = pos 1
+truth_number false = pos 0
 
 -- a number is 0
 abbrev pub is_zero : ℤ → Bool
@@ -71,7 +71,7 @@ wrapped v = int_wrap w32 v
 
 -- what an operator before a number makes of it
 abbrev pub prefixed : Prefix → ℤ → ℤ
-prefixed before.Not v = truth (is_zero v)
+prefixed before.Not v = truth_number (is_zero v)
 prefixed before.Complement v = int_bit_not w32 v
 prefixed before.Minus v = wrapped (neg_ℤ v)
 
@@ -94,18 +94,18 @@ infixed op.Plus a b = Ok (wrapped (a +ℤ b))
 infixed op.Minus a b = Ok (wrapped (a -ℤ b))
 infixed op.ShiftLeft a b = Ok (shifted_left a b)
 infixed op.ShiftRight a b = Ok (shifted_right a b)
-infixed op.Below a b = Ok (truth (int_lt a b))
-infixed op.AtMost a b = Ok (truth (int_le a b))
-infixed op.Above a b = Ok (truth (int_lt b a))
-infixed op.AtLeast a b = Ok (truth (int_le b a))
-infixed op.Equal a b = Ok (truth (int_eq a b))
-infixed op.Unequal a b = Ok (truth (not (int_eq a b)))
+infixed op.Below a b = Ok (truth_number (int_lt a b))
+infixed op.AtMost a b = Ok (truth_number (int_le a b))
+infixed op.Above a b = Ok (truth_number (int_lt b a))
+infixed op.AtLeast a b = Ok (truth_number (int_le b a))
+infixed op.Equal a b = Ok (truth_number (int_eq a b))
+infixed op.Unequal a b = Ok (truth_number (not (int_eq a b)))
 infixed op.BitAnd a b = Ok (int_bit_and w32 a b)
 infixed op.BitXor a b = Ok (int_bit_xor w32 a b)
 infixed op.BitOr a b = Ok (int_bit_or w32 a b)
 -- of numbers that are both there already
-infixed op.And a b = Ok (truth (not (is_zero a) && not (is_zero b)))
-infixed op.Or a b = Ok (truth (not (is_zero a && is_zero b)))
+infixed op.And a b = Ok (truth_number (not (is_zero a) && not (is_zero b)))
+infixed op.Or a b = Ok (truth_number (not (is_zero a && is_zero b)))
 
 -- ---- the right operand is evaluated only where the left one does not decide
 

@@ -3,7 +3,7 @@
 use Rattle.std.specs.Prelude.{◌≡◌, ℕ, ◌+◌, List, [], ◌∷◌, ◌++◌, Option, Some, None, if◌then◌else◌, slice_get, Bool, false, ◌||◌, nat_eq, codes, true, ◌&&◌, unwrap_or, option_map}
 use Rattle.pml_program.specs.declared.program.Seq.{Seq, Seq', Row_of-Stmt, end_of-Stmt, more_of-Stmt, items-the_row-Stmt}
 use Rattle.pml_program.specs.declared.program.Basic.{Basic, Plain, Goto, Break, If', Do', Block, Atomic, DStep, Unless, Row_of-Seq, end_of-Seq, more_of-Seq}
-use Rattle.promela_process.specs.Control.{Descent, Position, Control, Todo, Back, Under, InAtomic, InDStep, steps, descent, todos, into, in_d_step, at, basic_at, sequence, settle, IsSettled}
+use Rattle.promela_process.specs.Control.{Descent, Position, Control, Todo, Back, Under, InAtomic, InDStep, steps, descent, todos, into_arm, in_d_step, at, basic_at, sequence_at, settle, IsSettled}
 use Rattle.pml_program.specs.declared.program.Stmt.{Stmt}
 use Rattle.std.specs.List.{starts_with, flat_map}
 use Rattle.pml_token.specs.Word.{Word}
@@ -12,7 +12,7 @@ use Rattle.std.specs.Fmt.{decimal}
 -- A point: settled, and the position of what stands first, if anything is left.
 pub record IsPoint (b : Seq) (p : Position) : Type 0 where
   pub settled : IsSettled b (at (steps b) p)
-  pub stands : basic_at (sequence (steps b) p.0) p.1 ≡ None → at (steps b) p ≡ []
+  pub stands : basic_at (sequence_at (steps b) p.0) p.1 ≡ None → at (steps b) p ≡ []
 
 -- the position of the outermost atomic
 abbrev pub outermost : Control → Option Position
@@ -84,13 +84,13 @@ module _ (b : Seq) where
 
   -- the first point inside a d_step
   abbrev pub inside : Position → Seq → Control → Control
-  inside p s c = settle b (into p (DStep s) 0 c)
+  inside p s c = settle b (into_arm p (DStep s) 0 c)
 
 -- ---- the offers of a point of a body
 
 -- the statement at a position, if there is one
 abbrev pub statement_at : Seq → Position → Option Stmt
-statement_at b p = slice_get (sequence (steps b) p.0) p.1
+statement_at b p = slice_get (sequence_at (steps b) p.0) p.1
 
 -- the statement that stands first
 abbrev pub stated : Seq → Control → Option Stmt
@@ -117,14 +117,14 @@ any_end [] = false
 any_end (w ∷ ws) = is_end w.text || any_end ws
 
 -- tokens, joined by one space
-abbrev pub joined : List Word → List ℕ
-joined [] = []
-joined (w ∷ ws) = w.text ++ flat_map (λ (v : Word). codes " " ++ v.text) ws
+abbrev pub joined_by_spaces : List Word → List ℕ
+joined_by_spaces [] = []
+joined_by_spaces (w ∷ ws) = w.text ++ flat_map (λ (v : Word). codes " " ++ v.text) ws
 
 -- a statement's tokens, or `d_step`
-abbrev pub action : Basic → List Word → List ℕ
-action (DStep s) ts = codes "d_step"
-action _ ts = joined ts
+abbrev pub statement_text : Basic → List Word → List ℕ
+statement_text (DStep s) ts = codes "d_step"
+statement_text _ ts = joined_by_spaces ts
 
 -- the line of an offered statement, in its text and by itself
 abbrev pub offer_line : Stmt → ℕ
@@ -132,7 +132,7 @@ offer_line s = first_line s.tokens 0
 
 -- `line L [TEXT]`
 abbrev pub offer_text : Stmt → List ℕ
-offer_text s = codes "line " ++ (decimal (offer_line s) ++ (codes " [" ++ (action s.basic s.tokens ++ codes "]")))
+offer_text s = codes "line " ++ (decimal (offer_line s) ++ (codes " [" ++ (statement_text s.basic s.tokens ++ codes "]")))
 
 -- ---- what an offer says
 
@@ -168,11 +168,11 @@ entry_of b p x = None
 abbrev pub offer_of : Seq → Edge → Offer
 offer_of b e = record {
   statement = e.0;
-  basic = basic_at (sequence (steps b) e.0.0) e.0.1;
+  basic = basic_at (sequence_at (steps b) e.0.0) e.0.1;
   next = e.1;
   keeps = same_position (outermost (at (steps b) e.0)) (outermost e.1);
   stays = in_d_step e.1;
-  entry = entry_of b e.0 (basic_at (sequence (steps b) e.0.0) e.0.1);
+  entry = entry_of b e.0 (basic_at (sequence_at (steps b) e.0.0) e.0.1);
   text = unwrap_or (option_map offer_text (statement_at b e.0)) [];
   line = unwrap_or (option_map offer_line (statement_at b e.0)) 0;
 }

@@ -74,11 +74,11 @@ KeepsModel _ p = Unit {0}
 
 -- a refusal applies to a model, by its marks or by the model itself
 unfoldable pub AppliesTo : Refusal → List Mark → Program → Type 0
-AppliesTo x ms p = IsSomeAnd (condition_of x) (λ c. marks.Applies c ms) ⊎ BreaksModel x p
+AppliesTo x ms p = IsSomeAnd (condition_of x) (λ c. marks.AppliesToMarks c ms) ⊎ BreaksModel x p
 
 -- the model has nothing that this refusal tells of
 unfoldable pub FitsTo : Refusal → List Mark → Program → Type 0
-FitsTo x ms p = IfSome (condition_of x) (λ c. marks.Fits c ms) × KeepsModel x p
+FitsTo x ms p = IfSome (condition_of x) (λ c. marks.FitsMarks c ms) × KeepsModel x p
 
 -- a refusal applies to the tree and to the model that it stands for
 pub record Applies (t : Tree) (x : Refusal) : Type 0 where

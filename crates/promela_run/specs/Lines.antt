@@ -21,14 +21,14 @@ use Rattle.promela_run.specs.declared.before.Before.{Before}
 use Rattle.promela_run.specs.declared.before.Before.TheVariants.{Nothing, Percent, Backslash}
 
 -- the mtype name with a number, from 1
-abbrev pub constant : List Word → ℤ → Option Word
-constant names (pos zero) = None
-constant names (pos (suc n)) = slice_get names n
-constant names (negsuc n) = None
+abbrev pub mtype_numbered : List Word → ℤ → Option Word
+mtype_numbered names (pos zero) = None
+mtype_numbered names (pos (suc n)) = slice_get names n
+mtype_numbered names (negsuc n) = None
 
 -- the mtype name with a number, or the number where there is none
 abbrev pub name_of_number : List Word → ℤ → List ℕ
-name_of_number names number = option_map_or (λ w. w.text) (constant names number) (signed_decimal number)
+name_of_number names number = option_map_or (λ w. w.text) (mtype_numbered names number) (signed_decimal number)
 
 -- a number as its type has it written
 abbrev pub worth : List Word → Form → ℤ → List ℕ
@@ -36,13 +36,13 @@ worth names (kind.Plain scalar.Mtype) number = name_of_number names number
 worth names _ number = signed_decimal number
 
 -- the index of an element, in an array
-abbrev pub index : Bool → ℕ → List ℕ
-index false n = []
-index true n = codes "[" ++ (decimal n ++ codes "]")
+abbrev pub index_text : Bool → ℕ → List ℕ
+index_text false n = []
+index_text true n = codes "[" ++ (decimal n ++ codes "]")
 
 -- a variable or a field, at one of its cells
 abbrev pub element : Slot → ℕ → List ℕ
-element s cell = s.name.text ++ index s.array (cell / s.stride)
+element s cell = s.name.text ++ index_text s.array (cell / s.stride)
 
 -- the fields that lead to a cell within an element of a type, n of them at most
 abbrev pub fields_path : List Fields → ℕ → Form → ℕ → List ℕ
@@ -93,8 +93,8 @@ owners p globals locals sorts =
     record { wanted = globals; heading = codes "global "; slots = p.globals } ∷ process_owners p locals 0 sorts
 
 -- the line of a cell and its number
-abbrev pub line : Program → Owner → Slot → ℕ → ℤ → List ℕ
-line p o s cell number = if o.wanted then o.heading ++ place_line p s cell number else []
+abbrev pub cell_line : Program → Owner → Slot → ℕ → ℤ → List ℕ
+cell_line p o s cell number = if o.wanted then o.heading ++ place_line p s cell number else []
 
 -- ---- two states compared
 
@@ -110,7 +110,7 @@ variable_lines f _ _ _ = []
 
 -- those of all owners
 abbrev pub owner_lines : Program → List Owner → List Frame → List Frame → List ℕ
-owner_lines p (o ∷ os) (x ∷ xs) (y ∷ ys) = variable_lines (line p o) o.slots x y ++ owner_lines p os xs ys
+owner_lines p (o ∷ os) (x ∷ xs) (y ∷ ys) = variable_lines (cell_line p o) o.slots x y ++ owner_lines p os xs ys
 owner_lines p _ _ _ = []
 
 -- The lines of the places that are there before and after and whose numbers differ: globals, and then the variables of each
@@ -129,8 +129,8 @@ abbrev pub letter_t : ℕ
 letter_t = 116
 
 -- what a conversion prints of its value, by its letter; a second `%` prints a percent sign
-abbrev pub converted : List Word → ℕ → ℤ → List ℕ
-converted names letter value =
+abbrev pub conversion_text : List Word → ℕ → ℤ → List ℕ
+conversion_text names letter value =
     if nat_eq letter letter_d then signed_decimal value
     else (if nat_eq letter letter_u then decimal (residue 32 value)
     else (if nat_eq letter letter_o then radix_digits 8 false (residue 32 value)
@@ -146,7 +146,7 @@ escaped byte = if nat_eq byte letter_n then line_feed else (if nat_eq byte lette
 -- what a byte prints, by what stands before it: a percent sign and a backslash print nothing by themselves
 abbrev pub printed_byte : List Word → Before → ℕ → ℤ → List ℕ
 printed_byte names Nothing byte value = if nat_eq byte percent || nat_eq byte backslash then [] else byte ∷ []
-printed_byte names Percent byte value = converted names byte value
+printed_byte names Percent byte value = conversion_text names byte value
 printed_byte names Backslash byte value = escaped byte ∷ []
 
 -- what stands before the byte behind this one: a byte that belongs to the one before it begins nothing
@@ -171,9 +171,9 @@ printed_from names before (byte ∷ bytes) values =
     ++ printed_from names (before_next before byte) bytes (values_left before byte values)
 
 -- a string without its quotes
-abbrev pub inside : List ℕ → List ℕ
-inside string = take (length string - 2) (drop 1 string)
+abbrev pub unquoted : List ℕ → List ℕ
+unquoted string = take (length string - 2) (drop 1 string)
 
 -- a string with its quotes, and a value for each conversion
 abbrev pub printed : List Word → List ℕ → List ℤ → List ℕ
-printed names string values = printed_from names Nothing (inside string) values
+printed names string values = printed_from names Nothing (unquoted string) values

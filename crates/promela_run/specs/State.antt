@@ -131,12 +131,12 @@ abbrev pub read_in : State → Reading
 read_in s = reads s (length s.stands - 1) false
 
 -- a cell of a variable of the youngest frame
-abbrev pub cell_in : State → ℕ → ℕ → Place
-cell_in now variable cell = record { frame = length now.stands; variable = variable; cell = cell }
+abbrev pub youngest_cell : State → ℕ → ℕ → Place
+youngest_cell now variable cell = record { frame = length now.stands; variable = variable; cell = cell }
 
 -- a number in a cell
 abbrev pub with_value : ℕ → ℕ → ℤ → State → State
-with_value variable cell v now = record now { frames = with_number now.frames (cell_in now variable cell) v }
+with_value variable cell v now = record now { frames = with_number now.frames (youngest_cell now variable cell) v }
 
 -- a channel has a capacity of at most 65,535, which is all that a checked model asks for
 abbrev pub empty_channel : ℕ → List Form → ChannelState
@@ -146,7 +146,7 @@ empty_channel capacity types = record { capacity = min capacity MOST_MESSAGES; t
 abbrev pub with_channel : ℕ → ℕ → ChannelState → State → Result State Fault
 with_channel variable cell c now =
     if nat_lt (length now.channels) MOST_CHANNELS then Ok (record now {
-      frames = with_number now.frames (cell_in now variable cell) (pos (length now.channels + 1));
+      frames = with_number now.frames (youngest_cell now variable cell) (pos (length now.channels + 1));
       channels = now.channels ++ record { frame = length now.stands; channel = c } ∷ [];
     }) else Err TooManyChannels
 
@@ -203,13 +203,13 @@ abbrev pub variables_at : Program → ℕ → List Slot
 variables_at p k = option_map_or (λ q. q.variables) (slice_get p.proctypes k) []
 
 -- a process more, the youngest, that stands so
-abbrev pub joined : Stand → State → State
-joined y now = record now { stands = now.stands ++ y ∷ [] }
+abbrev pub youngest_joined : Stand → State → State
+youngest_joined y now = record now { stands = now.stands ++ y ∷ [] }
 
 -- a process of the proctype with this number; none is the 256th
 abbrev pub process_begun : Program → ℕ → State → Result State Fault
 process_begun p k now =
-    if nat_lt (length now.stands) MOST_PROCESSES then frame_begun p.typedefs (variables_at p k) (joined (begins_at p k) now) else Ok now
+    if nat_lt (length now.stands) MOST_PROCESSES then frame_begun p.typedefs (variables_at p k) (youngest_joined (begins_at p k) now) else Ok now
 
 -- n such processes
 abbrev pub sort_begun : Program → ℕ → ℕ → State → Result State Fault

@@ -21,7 +21,7 @@ use Rattle.promela_process.specs.Expressions.{matched, Reading, val, place, aske
 use Rattle.promela_process.specs.Store.{ChannelState, cut, sorted_in}
 use Rattle.promela_run.specs.declared.live_channel.LiveChannel.{LiveChannel}
 use Rattle.promela_run.specs.declared.goes.Goes.{Goes}
-use Rattle.promela_run.specs.State.{channel_at, size, leaf, Stand, State, with_value, with_frame, joined, variables_begun}
+use Rattle.promela_run.specs.State.{channel_at, size, leaf, Stand, State, with_value, with_frame, youngest_joined, variables_begun}
 use Rattle.pml_program.specs.declared.program.Action.{Action}
 use Rattle.pml_program.specs.declared.program.Action.TheVariants as a
 use Rattle.pml_program.specs.declared.program.Initial.{Initial}
@@ -37,14 +37,14 @@ index_of_channel (pos (suc n)) = n
 index_of_channel z = 0
 
 -- a channel, and then the number of fields; no message has more of them than MOST_FIELDS
-abbrev pub with_fields : ℕ → ℤ → Option ChannelState → Result ℕ Fault
-with_fields count n None = Err NoSuchChannel
-with_fields count n (Some c) =
+abbrev pub place_with_fields : ℕ → ℤ → Option ChannelState → Result ℕ Fault
+place_with_fields count n None = Err NoSuchChannel
+place_with_fields count n (Some c) =
     if nat_eq count (length c.types) && nat_le count MOST_FIELDS then Ok (index_of_channel n) else Err WrongNumberOfFields
 
 -- the place among the live channels of the one that a variable names, where it has so many fields
-abbrev pub named : List LiveChannel → Reading → Target → ℕ → Result ℕ Fault
-named cs r t count = place t r >>= λ at. with_fields count (r.holds at) (channel_at cs (r.holds at))
+abbrev pub place_named : List LiveChannel → Reading → Target → ℕ → Result ℕ Fault
+place_named cs r t count = place t r >>= λ at. place_with_fields count (r.holds at) (channel_at cs (r.holds at))
 
 -- what the channel at a place holds; where none is, one that keeps nothing and has no fields
 abbrev pub contents_at : List LiveChannel → ℕ → ChannelState
@@ -75,7 +75,7 @@ with_message order fields c =
 
 -- the place of a message's channel, and its values
 abbrev pub addressed : List LiveChannel → Reading → Target → List Expr → Result (ℕ × List ℤ) Fault
-addressed cs r t es = named cs r t (length es) >>= λ n. values es r >>= λ vs. Ok (n, vs)
+addressed cs r t es = place_named cs r t (length es) >>= λ n. values es r >>= λ vs. Ok (n, vs)
 
 -- what a send leaves of the live channels: the channel is asked, then the number of fields, then the fields from left to right
 abbrev pub sent : List LiveChannel → Reading → Target → SendOrder → List Expr → Result (List LiveChannel) Fault
@@ -123,7 +123,7 @@ taken_at cs n search how ws = taken_from cs n how ws (found search ws (contents_
 
 -- the place of a message's channel, and what is asked of the message
 abbrev pub asked_at : List LiveChannel → Reading → Target → List Want → Result (ℕ × List Sought) Fault
-asked_at cs r t ws = named cs r t (length ws) >>= λ n. asked_by ws r >>= λ ss. Ok (n, ss)
+asked_at cs r t ws = place_named cs r t (length ws) >>= λ n. asked_by ws r >>= λ ss. Ok (n, ss)
 
 -- The channel is asked, then the number of fields, then what is asked of each from left to right, all places before any is stored.
 -- Where no message is found nothing is done (no process receives from it).
@@ -148,15 +148,15 @@ goes_to None v r = Ok None
 goes_to (Some t) v r = goes t v r >>= λ g. Ok (Some g)
 
 -- what a variable holds, so much more, back into it
-abbrev pub counted : Target → ℤ → Reading → Result (Option Goes) Fault
-counted t by r = place t r >>= λ p. goes_to (Some t) (wrapped (r.holds p +ℤ by)) r
+abbrev pub increased : Target → ℤ → Reading → Result (Option Goes) Fault
+increased t by r = place t r >>= λ p. goes_to (Some t) (wrapped (r.holds p +ℤ by)) r
 
 -- what such a statement stores, if anything: the value of the right side, then the place (the other sorts are not
 -- spoken of here, and store nothing by it)
 abbrev pub outcome : Action → Reading → Result (Option Goes) Fault
 outcome (a.Assign t v) r = val v r >>= λ n. goes_to t n r
-outcome (a.Increment t) r = counted t (pos 1) r
-outcome (a.Decrement t) r = counted t (negsuc 0) r
+outcome (a.Increment t) r = increased t (pos 1) r
+outcome (a.Decrement t) r = increased t (negsuc 0) r
 outcome (a.Holds v) r = val v r >>= λ n. Ok None
 outcome s r = Ok None
 
@@ -170,19 +170,19 @@ is_channel (i.Channel capacity types) = true
 is_channel _ = false
 
 -- among n cells of a variable, from this one on
-abbrev pub channels_in : List Fields → Slot → ℕ → ℕ → ℕ
-channels_in ts s cell zero = 0
-channels_in ts s cell (suc n) = (if is_channel (leaf ts s cell).initial then 1 else 0) + channels_in ts s (cell + 1) n
+abbrev pub channels_among : List Fields → Slot → ℕ → ℕ → ℕ
+channels_among ts s cell zero = 0
+channels_among ts s cell (suc n) = (if is_channel (leaf ts s cell).initial then 1 else 0) + channels_among ts s (cell + 1) n
 
 -- a variable with a value makes none, any other one for each cell that begins with a channel
 abbrev pub channels_by : List Fields → Initial → Slot → ℕ
 channels_by ts (i.Value v) s = 0
-channels_by ts _ s = channels_in ts s 0 (size s)
+channels_by ts _ s = channels_among ts s 0 (size s)
 
 -- how many channels variables make
-abbrev pub channels_of : List Fields → List Slot → ℕ
-channels_of ts [] = 0
-channels_of ts (s ∷ ss) = channels_by ts s.initial s + channels_of ts ss
+abbrev pub channels_made : List Fields → List Slot → ℕ
+channels_made ts [] = 0
+channels_made ts (s ∷ ss) = channels_by ts s.initial s + channels_made ts ss
 
 -- ---- a process begins
 
@@ -196,5 +196,5 @@ with_arguments variable (s ∷ ss) (v ∷ vs) now = with_arguments (variable + 1
 -- the order of the text. Too many channels are a fault before anything begins.
 abbrev pub created : List Fields → Stand → List Slot → List ℤ → State → Result State Fault
 created ts y ss vs now =
-    if nat_lt MOST_CHANNELS (length now.channels + channels_of ts ss) then Err TooManyChannels
-    else variables_begun ts ss 0 (with_arguments 0 ss vs (with_frame ss (joined y now)))
+    if nat_lt MOST_CHANNELS (length now.channels + channels_made ts ss) then Err TooManyChannels
+    else variables_begun ts ss 0 (with_arguments 0 ss vs (with_frame ss (youngest_joined y now)))

@@ -130,8 +130,8 @@ effect s p t _ = quiet s
 -- ---- inside a d_step
 
 -- bytes that were printed before
-abbrev pub behind : List ℕ → Done → Result Done Fault
-behind bytes d = Ok (record d { printed = bytes ++ d.printed })
+abbrev pub behind_printed : List ℕ → Done → Result Done Fault
+behind_printed bytes d = Ok (record d { printed = bytes ++ d.printed })
 
 -- the first that can be taken, or the fault that none can
 abbrev pub first_of : List Offer → (Offer → Result Done Fault) → Result Done Fault
@@ -149,7 +149,7 @@ within zero s p t b c = Err DStepTooLong
 within (suc n) s p t b c =
     first_of (choices s.lossy s.channels (reads s p t) (levels b c)) (λ o.
     effect s p t o.basic >>= λ d.
-    onward o.stays d (λ e. within n e.state p false b o.next >>= behind e.printed))
+    onward o.stays d (λ e. within n e.state p false b o.next >>= behind_printed e.printed))
 
 -- what the statements of a d_step do from a point on, at most so many
 abbrev pub within_from : ℕ → State → ℕ → Bool → Option Seq → Option Control → Result Done Fault
@@ -189,7 +189,7 @@ paired s k j t (Some o) (Some w) =
 paired s k j t o w = quiet s
 
 -- What a move leads to: a state and the bytes that are printed, or the first fault. A d_step has at most `most` statements.
-abbrev pub step : ℕ → State → Move → Result Done Fault
-step most s (Death p) = quiet (without_youngest s)
-step most s (Alone k t) = alone most s k t (picked s k)
-step most s (Pair k j t) = paired s k j t (picked s k) (picked s j)
+abbrev pub after_move : ℕ → State → Move → Result Done Fault
+after_move most s (Death p) = quiet (without_youngest s)
+after_move most s (Alone k t) = alone most s k t (picked s k)
+after_move most s (Pair k j t) = paired s k j t (picked s k) (picked s j)

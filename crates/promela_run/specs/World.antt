@@ -33,13 +33,13 @@ standing (Todo p s ∷ c) = Some p
 standing _ = None
 
 -- a statement has a label that begins with `end`, and its place leads to c without a step
-abbrev pub is_end : Seq → Control → Position × Stmt → Bool
-is_end b c e = any_end e.1.labels && same_position (standing (settle b (at (steps b) e.0))) (standing c)
+abbrev pub is_end_place : Seq → Control → Position × Stmt → Bool
+is_end_place b c e = any_end e.1.labels && same_position (standing (settle b (at (steps b) e.0))) (standing c)
 
 -- A process may end at the closing brace, and where such a label of its body leads.
 abbrev pub may_end : Seq → Control → Bool
 may_end b [] = true
-may_end b (f ∷ c) = list_any (is_end b (f ∷ c)) (all_of b)
+may_end b (f ∷ c) = list_any (is_end_place b (f ∷ c)) (all_of b)
 
 -- a process may end where it stands; where there is no body, nothing is left to do
 abbrev pub is_done : Program → Stand → Bool
@@ -52,8 +52,8 @@ is_valid s = list_all (is_done s.program) s.stands
 -- ---- texts
 
 -- the proctype of process p
-abbrev pub proctype_of : State → ℕ → Option Proctype
-proctype_of s p = option_and_then (λ y. slice_get s.program.proctypes y.sort) (slice_get s.stands p)
+abbrev pub sort_of_process : State → ℕ → Option Proctype
+sort_of_process s p = option_and_then (λ y. slice_get s.program.proctypes y.sort) (slice_get s.stands p)
 
 -- `proc P (NAME) `
 abbrev pub heading : ℕ → Proctype → List ℕ
@@ -66,13 +66,13 @@ line n = codes "line " ++ decimal n
 -- ---- moves
 
 -- the text of an offer of a process, behind its heading
-abbrev pub offer_text : ℕ → Option Proctype → Option Offer → List ℕ
-offer_text p (Some q) (Some o) = heading p q ++ o.text
-offer_text p q o = []
+abbrev pub offer_with_heading : ℕ → Option Proctype → Option Offer → List ℕ
+offer_with_heading p (Some q) (Some o) = heading p q ++ o.text
+offer_with_heading p q o = []
 
 -- `proc P (NAME) line L [TEXT]`
 abbrev pub pick_text : State → Pick → List ℕ
-pick_text s k = offer_text k.process (proctype_of s k.process) (picked s k)
+pick_text s k = offer_with_heading k.process (sort_of_process s k.process) (picked s k)
 
 -- `proc P (NAME) line L [-end-]`, with the line of the closing brace
 abbrev pub death_text : ℕ → Option Proctype → List ℕ
@@ -81,7 +81,7 @@ death_text p (Some q) = heading p q ++ (line q.end.line ++ codes " [-end-]")
 
 -- of a rendezvous, the sender's and then the receiver's
 abbrev pub move_text : State → Move → List ℕ
-move_text s (Death p) = death_text p (proctype_of s p)
+move_text s (Death p) = death_text p (sort_of_process s p)
 move_text s (Alone k t) = pick_text s k
 move_text s (Pair k j t) = pick_text s k ++ (codes " -> " ++ pick_text s j)
 
@@ -93,7 +93,7 @@ line_of s k = option_map_or (λ o. o.line) (picked s k) 0
 
 -- P and L of a move's text: of a death the line of the closing brace, of a rendezvous the sender's
 abbrev pub origin_of : State → Move → ℕ × ℕ
-origin_of s (Death p) = (p, option_map_or (λ q. q.end.line) (proctype_of s p) 0)
+origin_of s (Death p) = (p, option_map_or (λ q. q.end.line) (sort_of_process s p) 0)
 origin_of s (Alone k t) = (k.process, line_of s k)
 origin_of s (Pair k j t) = (k.process, line_of s k)
 
@@ -126,8 +126,8 @@ first s lossy = record { state = record s { lossy = lossy }; past = s.frames; ha
 -- ---- its moves, its steps, and the texts
 
 -- the moves of a state, in order; none, where it has stopped
-abbrev pub moves : Running → List Move
-moves w = option_map_or (λ h. []) w.halt (search.moves w.state)
+abbrev pub world_moves : Running → List Move
+world_moves w = option_map_or (λ h. []) w.halt (search.moves w.state)
 
 -- a state that a step leads to, and what it printed; or its fault
 abbrev pub led_to : List Frame → Result outcome.Done Fault → Outcome Running
@@ -135,8 +135,8 @@ led_to frames (Ok d) = Goes (record { state = d.state; past = take (length d.sta
 led_to frames (Err f) = Faults f
 
 -- what a move leads to
-abbrev pub step : Running → Move → Outcome Running
-step w m = led_to w.state.frames (outcome.step MOST_DSTEP_STATEMENTS w.state m)
+abbrev pub world_step : Running → Move → Outcome Running
+world_step w m = led_to w.state.frames (outcome.after_move MOST_DSTEP_STATEMENTS w.state m)
 
 -- the variables before the last step and now, compared
 abbrev pub changed_lines : Running → Bool → Bool → List ℕ
@@ -145,8 +145,8 @@ changed_lines w globals locals = value_lines w.state.program (sorts w.state) w.p
 -- a checked model as the machine that a session plays; it tells the move at which it has stopped, and why
 abbrev pub rules : Rules Running Move
 rules = record {
-  moves = moves;
-  step = step;
+  moves = world_moves;
+  step = world_step;
   stopped = λ w. option_map (λ h. record { move = h.at; why = h.why }) w.halt;
   text = λ w m. move_text w.state m;
   origin = λ w m. origin_of w.state m;

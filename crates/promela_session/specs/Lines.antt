@@ -11,7 +11,7 @@ use Rattle.promela_session.specs.declared.line.LineEnd.{LineEnd}
 use Rattle.promela_session.specs.declared.line.LineEnd.TheVariants.{Whole, Last, TooLong}
 use Rattle.promela_session.specs.declared.choice.Answer.{Answer}
 use Rattle.promela_session.specs.declared.choice.Answer.TheVariants as answer
-use Rattle.profile.specs.Characters.{line_feed, tab, carriage_return, space, zero_digit, nine_digit, letter_q}
+use Rattle.profile.specs.Characters.{line_feed, tab, carriage_return, space, zero_digit, is_digit, letter_q}
 
 -- a line of the choices: how it ends, its bytes without a line feed, and the bytes behind it
 pub record Line : Type 0 where
@@ -41,8 +41,8 @@ saw_end Last = true
 saw_end _ = false
 
 -- a space, a tab or a carriage return
-abbrev pub is_blank : ℕ → Bool
-is_blank b = b == space || (b == tab || b == carriage_return)
+abbrev pub is_line_blank : ℕ → Bool
+is_line_blank b = b == space || (b == tab || b == carriage_return)
 
 -- bytes without those at their front of which this holds
 abbrev pub without_front : (ℕ → Bool) → List ℕ → List ℕ
@@ -52,15 +52,11 @@ without_front holds (b ∷ bs) = if holds b then without_front holds bs else b �
 -- a word without the blanks at its end
 abbrev pub end_trimmed : List ℕ → List ℕ
 end_trimmed [] = []
-end_trimmed (b ∷ bs) = if list_all is_blank (b ∷ bs) then [] else b ∷ end_trimmed bs
+end_trimmed (b ∷ bs) = if list_all is_line_blank (b ∷ bs) then [] else b ∷ end_trimmed bs
 
 -- and without those at its front
 abbrev pub trimmed : List ℕ → List ℕ
-trimmed line = end_trimmed (without_front is_blank line)
-
--- from `0` to `9`
-abbrev pub is_digit : ℕ → Bool
-is_digit b = nat_le zero_digit b && nat_le b nine_digit
+trimmed line = end_trimmed (without_front is_line_blank line)
 
 -- the number that digits write
 abbrev pub number_of : List ℕ → ℕ

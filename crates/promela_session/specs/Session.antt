@@ -76,14 +76,14 @@ one_line version most place rest =
     }
 
 -- nothing is done, and only this comes of it
-abbrev pub only : {T : Type 0} → T → Stream → List ℕ → Part T
-only value stream left = record { events = []; value = value; stream = stream; left = left }
+abbrev pub only_this : {T : Type 0} → T → Stream → List ℕ → Part T
+only_this value stream left = record { events = []; value = value; stream = stream; left = left }
 
 -- The next line, unless the end was seen. Choices of which nothing was read are of the first version.
 unfoldable pub next_line : ℕ → (ℕ → ℕ × ℕ) → Stream → List ℕ → Part (Option Answer)
 next_line most place Unread rest = one_line First most place rest
 next_line most place (Known version) rest = one_line version most place rest
-next_line most place Over rest = only (Some answer.Ended) Over rest
+next_line most place Over rest = only_this (Some answer.Ended) Over rest
 
 -- a line that ends so is the first of choices of the second version
 abbrev pub begins_second : LineEnd → List ℕ → Bool
@@ -102,24 +102,24 @@ one_reply most place Over rest = next_line most place Over rest
 
 -- an answer ends a question; a bad line is answered, and then comes what follows it
 abbrev pub after_line : (Stream → List ℕ → Part Answer) → Option Answer → Stream → List ℕ → Part Answer
-after_line more (Some said) stream left = only said stream left
+after_line more (Some said) stream left = only_this said stream left
 after_line more None stream left = preceded (Put Corrected bad_line ∷ []) (more stream left)
 
 -- The question for one of so many moves, where so many more bad lines are answered by a prompt.
-unfoldable pub ask : ℕ → (ℕ → ℕ × ℕ) → ℕ → Stream → List ℕ → Part Answer
-ask most place zero stream rest = followed (one_reply most place stream rest) (after_line (only answer.Hundred))
-ask most place (suc tries) stream rest =
-    followed (one_reply most place stream rest) (after_line (λ o left. preceded (Put Corrected (prompt most) ∷ []) (ask most place tries o left)))
+unfoldable pub ask_for_move : ℕ → (ℕ → ℕ × ℕ) → ℕ → Stream → List ℕ → Part Answer
+ask_for_move most place zero stream rest = followed (one_reply most place stream rest) (after_line (only_this answer.Hundred))
+ask_for_move most place (suc tries) stream rest =
+    followed (one_reply most place stream rest) (after_line (λ o left. preceded (Put Corrected (prompt most) ∷ []) (ask_for_move most place tries o left)))
 
 -- an accepted number is recorded, in lines of this version
 abbrev pub kept : Version → (ℕ → ℕ × ℕ) → Answer → Stream → List ℕ → Part Answer
 kept notes place (answer.Pick n) stream left =
-    preceded (Recorded (noted notes n (place n)) (placed_line n (place n)) ∷ []) (only (answer.Pick n) stream left)
-kept notes place said stream left = only said stream left
+    preceded (Recorded (noted notes n (place n)) (placed_line n (place n)) ∷ []) (only_this (answer.Pick n) stream left)
+kept notes place said stream left = only_this said stream left
 
 -- the question for one of so many moves: a hundred bad lines end it, all but the last of them answered by a prompt
 abbrev pub question : ℕ → (ℕ → ℕ × ℕ) → Stream → List ℕ → Part Answer
-question most place stream rest = ask most place (BAD_LINES - 1) stream rest
+question most place stream rest = ask_for_move most place (BAD_LINES - 1) stream rest
 
 -- the version of the record's lines
 module _ (notes : Version) where
@@ -130,14 +130,14 @@ module _ (notes : Version) where
       preceded (Put Told (list_from text 1 moves) ∷ []) (preceded (Put Told (prompt most) ∷ []) (followed (question most place stream rest) (kept notes place)))
 
 -- the process and the line of the move with this number, counted from 1
-abbrev pub place_of : {S M : Type 0} → Rules S M → S → List M → ℕ → ℕ × ℕ
-place_of rules s moves n = unwrap_or (option_map (rules.origin s) (slice_get moves (n - 1))) (0, 0)
+abbrev pub place_of_move : {S M : Type 0} → Rules S M → S → List M → ℕ → ℕ × ℕ
+place_of_move rules s moves n = unwrap_or (option_map (rules.origin s) (slice_get moves (n - 1))) (0, 0)
 
 module _ {S M : Type 0} (notes : Version) (rules : Rules S M) (s : S) where
   -- one move is taken without asking; of several one is asked for
-  unfoldable pub select : List M → Stream → List ℕ → Part Answer
-  select (m ∷ n ∷ ms) stream rest = choose notes (rules.text s) (place_of rules s (m ∷ n ∷ ms)) (m ∷ n ∷ ms) stream rest
-  select moves stream rest = only (answer.Pick 1) stream rest
+  unfoldable pub select_move : List M → Stream → List ℕ → Part Answer
+  select_move (m ∷ n ∷ ms) stream rest = choose notes (rules.text s) (place_of_move rules s (m ∷ n ∷ ms)) (m ∷ n ∷ ms) stream rest
+  select_move moves stream rest = only_this (answer.Pick 1) stream rest
 
 -- how a session ends by this cause
 abbrev pub end_of : Cause → ℕ → End
@@ -145,7 +145,7 @@ end_of c steps = record { status = status_of c; steps = steps; cause = c }
 
 -- the last line is written
 abbrev pub stopped : Cause → ℕ → Stream → List ℕ → Part End
-stopped c steps stream left = preceded (Put Told (last_line c steps) ∷ []) (only (end_of c steps) stream left)
+stopped c steps stream left = preceded (Put Told (last_line c steps) ∷ []) (only_this (end_of c steps) stream left)
 
 -- where there is no move, the end is a valid one or not
 abbrev pub final_cause : Bool → Cause
@@ -159,7 +159,7 @@ final_lines false stuck steps = last_line cause.Invalid steps ++ stuck
 
 -- there is no move
 abbrev pub finished : Bool → List ℕ → ℕ → Stream → List ℕ → Part End
-finished valid stuck steps stream left = preceded (Put Told (final_lines valid stuck steps) ∷ []) (only (end_of (final_cause valid) steps) stream left)
+finished valid stuck steps stream left = preceded (Put Told (final_lines valid stuck steps) ∷ []) (only_this (end_of (final_cause valid) steps) stream left)
 
 module _ {S M : Type 0} (rules : Rules S M) (options : Options) (s : S) where
   -- the text of a step: its line, what it printed, the value lines
@@ -172,11 +172,11 @@ module _ {S M : Type 0} (rules : Rules S M) (options : Options) (s : S) where
   stepped m steps later stream left (Goes t printed) =
       preceded (Stepped ∷ []) (preceded (Put Told (step_text m (steps + 1) t printed) ∷ []) (later t))
   stepped m steps later stream left (Faults f) =
-      preceded (Put Told (fault_line f (steps + 1) (rules.text s m)) ∷ []) (only (end_of (cause.Fault f) steps) stream left)
+      preceded (Put Told (fault_line f (steps + 1) (rules.text s m)) ∷ []) (only_this (end_of (cause.Fault f) steps) stream left)
 
 -- the model is refused, at this line of its text
 abbrev pub refused : Refusal → ℕ → Stream → List ℕ → Part End
-refused r line stream left = preceded (Put Told (refusal_line r) ∷ []) (only (end_of (cause.Refused r line) 0) stream left)
+refused r line stream left = preceded (Put Told (refusal_line r) ∷ []) (only_this (end_of (cause.Refused r line) 0) stream left)
 
 module _ {S M : Type 0} (rules : Rules S M) (options : Options) (s : S) (moves : List M) where
   -- what follows an answer: the picked move, or the end
@@ -203,7 +203,7 @@ module _ {S M : Type 0} (notes : Version) (rules : Rules S M) (options : Options
       at_moves rules s steps stream rest (λ moves m. stopped cause.StepLimit steps stream rest) (rules.moves s)
   story (suc fuel) s steps stream rest =
       at_moves rules s steps stream rest
-      (λ moves m. followed (select notes rules s moves stream rest) (answered rules options s moves m steps (λ t o r. story fuel t (steps + 1) o r)))
+      (λ moves m. followed (select_move notes rules s moves stream rest) (answered rules options s moves m steps (λ t o r. story fuel t (steps + 1) o r)))
       (rules.moves s)
 
   -- the whole session on these choices, the end behind them, with a record in lines of this version

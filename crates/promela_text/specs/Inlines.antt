@@ -23,9 +23,9 @@ abbrev pub has_inline : List Word → Bool
 has_inline ws = list_any is_inline ws
 
 -- the list begins with a token of this kind
-abbrev pub begins : Kind → List Word → Bool
-begins k [] = false
-begins k (w ∷ ws) = same_kind w.kind k
+abbrev pub begins_as : Kind → List Word → Bool
+begins_as k [] = false
+begins_as k (w ∷ ws) = same_kind w.kind k
 
 -- `n` brackets are open. The token closes one, opens one, or does neither.
 abbrev pub to_closing : Bool → Bool → (ℕ → Option ℕ) → ℕ → Option ℕ
@@ -41,16 +41,16 @@ closing opener closer [] n = None
 closing opener closer (w ∷ ws) n = to_closing (same_kind w.kind closer) (same_kind w.kind opener) (closing opener closer ws) n
 
 -- `( [ {`
-abbrev pub opens : Kind → Bool
-opens k = same_kind k OpenParen || same_kind k OpenBracket || same_kind k OpenBrace
+abbrev pub opens_bracket : Kind → Bool
+opens_bracket k = same_kind k OpenParen || same_kind k OpenBracket || same_kind k OpenBrace
 
 -- `) ] }`
-abbrev pub closes : Kind → Bool
-closes k = same_kind k CloseParen || same_kind k CloseBracket || same_kind k CloseBrace
+abbrev pub closes_bracket : Kind → Bool
+closes_bracket k = same_kind k CloseParen || same_kind k CloseBracket || same_kind k CloseBrace
 
 -- how many brackets of any kind are open behind a token; what closes none is not counted
 abbrev pub level_behind : ℕ → Kind → ℕ
-level_behind n k = if opens k then n + 1 else (if closes k then n - 1 else n)
+level_behind n k = if opens_bracket k then n + 1 else (if closes_bracket k then n - 1 else n)
 
 -- a comma that stands in no brackets begins a new part, and each other token belongs to the part that it stands in
 abbrev pub part_turn : Bool → Word → (ℕ → List (List Word)) → ℕ → List (List Word)
@@ -95,8 +95,8 @@ names (w ∷ v ∷ ws) =
 names _ = None
 
 -- the names of `[Name {, Name}] )`
-abbrev pub parameters : List Word → Option (List (List ℕ))
-parameters ws = if begins CloseParen ws then Some [] else names ws
+abbrev pub parameter_names : List Word → Option (List (List ℕ))
+parameter_names ws = if begins_as CloseParen ws then Some [] else names ws
 
 -- how many tokens these names, the commas between them and the `)` are
 abbrev pub listed : List (List ℕ) → ℕ
@@ -111,14 +111,14 @@ with_end name ps ts n =
 -- the definition whose body begins with the `{` that tokens begin with, if they do
 abbrev pub with_body : List ℕ → List (List ℕ) → List Word → Option Inline
 with_body name ps ts =
-    if begins OpenBrace ts then option_and_then (with_end name ps ts) (closing OpenBrace CloseBrace (drop 1 ts) 0) else None
+    if begins_as OpenBrace ts then option_and_then (with_end name ps ts) (closing OpenBrace CloseBrace (drop 1 ts) 0) else None
 
 -- the definition that tokens behind the word `inline` begin with, if they do
 unfoldable pub definition : List Word → Option Inline
 definition [] = None
 definition (w ∷ ws) =
-    if is_name w && begins OpenParen ws
-    then option_and_then (λ ps. with_body w.text ps (drop (listed ps) (drop 1 ws))) (parameters (drop 1 ws)) else None
+    if is_name w && begins_as OpenParen ws
+    then option_and_then (λ ps. with_body w.text ps (drop (listed ps) (drop 1 ws))) (parameter_names (drop 1 ws)) else None
 
 -- the definitions from a token on: it is passed over, or begins one, or is another token
 abbrev pub definition_turn : ℕ → Bool → Option Inline → (ℕ → Option (List Inline)) → Option (List Inline)
@@ -139,9 +139,9 @@ pub record Given : Type 0 where
   pub count : ℕ
 
 -- one after the other
-abbrev pub join : Option Given → Option Given → Option Given
-join (Some a) (Some b) = Some (record { tokens = a.tokens ++ b.tokens; count = a.count + b.count })
-join _ _ = None
+abbrev pub join_given : Option Given → Option Given → Option Given
+join_given (Some a) (Some b) = Some (record { tokens = a.tokens ++ b.tokens; count = a.count + b.count })
+join_given _ _ = None
 
 -- a token comes out as it is
 abbrev pub itself : Word → Option Given
@@ -171,14 +171,14 @@ fits d args = nat_eq (length args) (length d.parameters) && not (list_any is_emp
 
 -- the inline that a name calls, where `(` is behind it
 unfoldable pub callee : List Inline → Word → List Word → Option Inline
-callee known w ws = if is_name w && begins OpenParen ws then find (λ d. bytes_eq w.text d.name) known else None
+callee known w ws = if is_name w && begins_as OpenParen ws then find (λ d. bytes_eq w.text d.name) known else None
 
 -- what comes of a token and of what is behind it: it is passed over, or stays, or is a call, whose `)` stands behind `k` tokens
 abbrev pub turn : (Inline → List Word → Option Given) → ℕ → Option Inline → Word → List Word → (ℕ → Option Given) → Option Given
 turn call (suc n) d w ws rest = rest n
-turn call zero None w ws rest = join (itself w) (rest 0)
+turn call zero None w ws rest = join_given (itself w) (rest 0)
 turn call zero (Some d) w ws rest =
-    option_and_then (λ k. join (call d (take k (drop 1 ws))) (rest (k + 2))) (closing OpenParen CloseParen (drop 1 ws) 0)
+    option_and_then (λ k. join_given (call d (take k (drop 1 ws))) (rest (k + 2))) (closing OpenParen CloseParen (drop 1 ws) 0)
 
 -- what comes out of tokens by `call`, which says what comes out of a call; the first `n` tokens are passed over
 abbrev pub reading : List Inline → (Inline → List Word → Option Given) → List Word → ℕ → Option Given
@@ -187,7 +187,7 @@ reading known call (w ∷ ws) n = turn call n (callee known w ws) w ws (reading 
 
 -- what is read counts by its tokens, where the call has as many arguments as there are parameters
 abbrev pub where_right : Bool → (List Word → Option Given) → List Word → Option Given
-where_right true read ts = join (Some (record { tokens = []; count = length ts })) (read ts)
+where_right true read ts = join_given (Some (record { tokens = []; count = length ts })) (read ts)
 where_right false read ts = None
 
 -- What comes out of a call, where `room` calls more may be within one another, and the calls of `active` are around it.
@@ -204,10 +204,10 @@ abbrev pub braces_behind : ℕ → Word → ℕ
 braces_behind n w = if same_kind w.kind OpenBrace then n + 1 else (if same_kind w.kind CloseBrace then n - 1 else n)
 
 -- a call outside all others, whose parentheses have no word `inline` between them
-abbrev pub outermost : (List Word → Option Given) → List Word → (ℕ → Option Given) → Option ℕ → Option Given
-outermost call ws rest None = None
-outermost call ws rest (Some n) =
-    if has_inline (take n (drop 1 ws)) then None else join (call (take n (drop 1 ws))) (rest (n + 2))
+abbrev pub outermost_call : (List Word → Option Given) → List Word → (ℕ → Option Given) → Option ℕ → Option Given
+outermost_call call ws rest None = None
+outermost_call call ws rest (Some n) =
+    if has_inline (take n (drop 1 ws)) then None else join_given (call (take n (drop 1 ws))) (rest (n + 2))
 
 -- What comes out of the rest, where these inlines stand before it and behind its front, so many braces are open, and
 -- so many of its tokens are passed over.
@@ -224,8 +224,8 @@ defined rest known [] n = None
 abbrev pub text_turn : ℕ → Bool → Option Inline → Word → List Word → Rest → Rest
 text_turn (suc m) here d w ws rest known ds n m' = rest known ds n m
 text_turn zero true d w ws rest known ds n m' = defined rest known ds n
-text_turn zero false None w ws rest known ds n m' = join (itself w) (rest known ds (braces_behind n w) 0)
-text_turn zero false (Some d) w ws rest known ds n m' = outermost (calling known MOST_CALLS [] d) ws (rest known ds n) (closing OpenParen CloseParen (drop 1 ws) 0)
+text_turn zero false None w ws rest known ds n m' = join_given (itself w) (rest known ds (braces_behind n w) 0)
+text_turn zero false (Some d) w ws rest known ds n m' = outermost_call (calling known MOST_CALLS [] d) ws (rest known ds n) (closing OpenParen CloseParen (drop 1 ws) 0)
 
 -- What comes out of a text. `known` are the definitions before it, `ds` those in it, `n` braces are open before it, and the
 -- first `m` tokens are passed over.

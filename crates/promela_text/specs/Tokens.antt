@@ -4,7 +4,7 @@ use Rattle.std.specs.Prelude.{ℕ, Bool, true, false, not, ◌&&◌, ◌||◌, �
 use Rattle.std.specs.List.{list_all, prefix_len, starts_with, concat, list_any}
 use Rattle.std.specs.Option.{option_map}
 use lib.Chars.{codes}
-use Rattle.profile.specs.Characters.{tab, line_feed, carriage_return, space, quote, hash, star, slash, zero_digit, nine_digit, upper_a, upper_z, backslash, underscore, lower_a, lower_z}
+use Rattle.profile.specs.Characters.{tab, line_feed, carriage_return, space, quote, hash, star, slash, is_digit, upper_a, upper_z, backslash, underscore, lower_a, lower_z}
 use Rattle.promela_text.specs.declared.lexeme.Class.{Class}
 use Rattle.promela_text.specs.declared.lexeme.Class.TheVariants as class
 use Rattle.promela_text.specs.declared.lexeme.Lexeme.{Lexeme}
@@ -19,10 +19,6 @@ use Rattle.pml_token.specs.declared.token.Kind.TheVariants.{LeftOut, OpenParen, 
 -- space, tab, line feed, vertical tab, form feed, carriage return
 abbrev pub is_blank : ℕ → Bool
 is_blank b = b == space || (nat_le tab b && nat_le b carriage_return)
-
--- from `0` to `9`
-abbrev pub is_digit : ℕ → Bool
-is_digit b = nat_le zero_digit b && nat_le b nine_digit
 
 -- a letter or `_`
 abbrev pub is_letter : ℕ → Bool

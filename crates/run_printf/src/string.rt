@@ -3,7 +3,7 @@
 ghost use Rattle.std.specs.Prelude.{◌≡◌, ◌++◌, OnOk, OnErr, drop, slice_index_or, pos};
 ghost use Rattle.std.specs.Io.{StartsWith};
 ghost use Rattle.promela_process.specs.Numbers.{residue};
-ghost use Rattle.promela_run.specs.Lines.{converted, escaped, printed_byte, before_next, takes_value, printed, inside};
+ghost use Rattle.promela_run.specs.Lines.{conversion_text, escaped, printed_byte, before_next, takes_value, printed, unquoted};
 
 use crate::digits::add_digits;
 use itoa::Buffer;
@@ -33,7 +33,7 @@ fn add_converted(
     value: i32,
     text: &mut Vec<u8>,
 ) -> Result<(), AllocError>
-    ensures added { OnOk result (text.new.items ≡ text.old.items ++ converted constants.now letter value) }
+    ensures added { OnOk result (text.new.items ≡ text.old.items ++ conversion_text constants.now letter value) }
     ensures kept { OnErr result (StartsWith text.new.items text.old.items) }
 {
     let mut decimal = Buffer::new();
@@ -116,7 +116,7 @@ fn value_at(values: &[i32], index: usize) -> i32
 
 /// A string without its quotes.
 fn inside(string: &[u8]) -> &[u8]
-    ensures { result.now ≡ inside string.now }
+    ensures { result.now ≡ unquoted string.now }
 {
     match string {
         [_, bytes @ .., _] => bytes,

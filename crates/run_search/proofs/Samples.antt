@@ -19,9 +19,9 @@ use Rattle.pml_program.specs.declared.program.Seq.{Seq, roll-Seq}
 use Rattle.pml_program.specs.declared.program.Basic.{Basic, Plain}
 use Rattle.pml_program.specs.declared.program.Proctype.{Proctype}
 use Rattle.promela_process.specs.Control.{Control, settle, at, steps}
-use Rattle.promela_process.specs.Numbers.{truth}
+use Rattle.promela_process.specs.Numbers.{truth_number}
 use Rattle.promela_process.specs.declared.sought.Sought.TheVariants as sought
-use Rattle.promela_process.specs.Expressions.{Reading, Valued, Wanted, Placed, Turned, val, want as asks, place, polled, inside, value_step, want_step, target_step, turn_step, ◌>>=◌}
+use Rattle.promela_process.specs.Expressions.{Reading, Valued, Wanted, Placed, Turned, val, want as asks, place, polled, cell_inside, value_step, want_step, target_step, turn_step, ◌>>=◌}
 use Rattle.promela_run.specs.declared.live_channel.LiveChannel.{LiveChannel}
 use Rattle.promela_run.specs.State.{Stand, State}
 
@@ -111,7 +111,7 @@ pub number_is : (n : ℤ) (r : Reading) → val (expr.Number n) r ≡ Ok n
 unfolding roll-Expr roll
 number_is n r = ap (λ (f : Valued). f r) (fold-roll-Expr Valued Wanted Placed Turned value_step want_step target_step turn_step (Expr-F.Number n))
 
-pub timeout_is : (r : Reading) → val expr.Timeout r ≡ Ok (truth r.timeout)
+pub timeout_is : (r : Reading) → val expr.Timeout r ≡ Ok (truth_number r.timeout)
 unfolding roll-Expr roll
 timeout_is r = ap (λ (f : Valued). f r) (fold-roll-Expr Valued Wanted Placed Turned value_step want_step target_step turn_step Expr-F.Timeout)
 
@@ -119,7 +119,7 @@ pub exactly_is : (n : ℤ) (r : Reading) → asks (want.Exactly n) r ≡ Ok (sou
 unfolding roll-Want roll
 exactly_is n r = ap (λ (f : Wanted). f r) (fold-roll-Want Valued Wanted Placed Turned value_step want_step target_step turn_step (Want-F.Exactly n))
 
-pub global_is : (x : ℕ) (r : Reading) → place (global x) r ≡ (inside (r.cells (r.frame false) x) 0 >>= λ c. Ok (record { frame = r.frame false; variable = x; cell = c }))
+pub global_is : (x : ℕ) (r : Reading) → place (global x) r ≡ (cell_inside (r.cells (r.frame false) x) 0 >>= λ c. Ok (record { frame = r.frame false; variable = x; cell = c }))
 global_is x r = ap (λ (f : Placed). f.lies r) (fold-roll-Target Valued Wanted Placed Turned value_step want_step target_step turn_step record { local = false; variable = x; form = form.Plain scalar.Byte; turns = [] })
 
 pub poll_is : (x : ℕ) (s : Search) (n : ℤ) (r : Reading) → val (expr.Poll (global x) s (want.Exactly n ∷ [])) r

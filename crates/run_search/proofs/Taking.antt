@@ -11,7 +11,7 @@ use Rattle.pml_program.specs.declared.expr.Want.TheVariants as asks
 use Rattle.promela_process.specs.declared.place.Place.{Place}
 use Rattle.promela_process.specs.declared.sought.Sought.{Sought}
 use Rattle.promela_process.specs.declared.sought.Sought.TheVariants.{Into, Anything}
-use Rattle.promela_process.specs.Expressions.{Reading, Valued, Wanted, Placed, Turned, placed, want, taken, matched, is_match, asked_by, value_step, want_step, target_step, turn_step, ◌>>=◌}
+use Rattle.promela_process.specs.Expressions.{Reading, Valued, Wanted, Placed, Turned, placed_target, want, matches_field, matched, is_match, asked_by, value_step, want_step, target_step, turn_step, ◌>>=◌}
 use Rattle.promela_process.specs.Store.{ChannelState}
 use Rattle.promela_run.specs.Moves.{does_match, is_rendezvous, or_fault, can_receive}
 use Rattle.run_search.specs.Taking.{TakesAny, EachTakesAny}
@@ -19,15 +19,15 @@ use Rattle.run_state.proofs.Finding.{opens_at}
 
 -- ---- an argument
 
-into_is : (t : Target) (r : Reading) → want (asks.Into t) r ≡ ((placed t).lies r >>= λ at. Ok (Into at (placed t).form))
+into_is : (t : Target) (r : Reading) → want (asks.Into t) r ≡ ((placed_target t).lies r >>= λ at. Ok (Into at (placed_target t).form))
 unfolding roll-Want roll
 into_is t r = ap (λ (f : Wanted). f r) (fold-roll-Want Valued Wanted Placed Turned value_step want_step target_step turn_step (Want-F.Into t))
 
 pub into_any : (t : Target) → TakesAny (asks.Into t)
-into_any t r q x e = go ((placed t).lies r) (sym (into_is t r) ∙ e)
+into_any t r q x e = go ((placed_target t).lies r) (sym (into_is t r) ∙ e)
   where
-    go : (p : Result Place Fault) → (p >>= λ at. Ok (Into at (placed t).form)) ≡ Ok q → taken q x ≡ true
-    go (Ok at) k = let same : Into at (placed t).form ≡ q = cc in ap (λ (w : Sought). taken w x) (sym same)
+    go : (p : Result Place Fault) → (p >>= λ at. Ok (Into at (placed_target t).form)) ≡ Ok q → matches_field q x ≡ true
+    go (Ok at) k = let same : Into at (placed_target t).form ≡ q = cc in ap (λ (w : Sought). matches_field w x) (sym same)
     go (Err f) k = cc
 
 anything_is : (r : Reading) → want asks.Anything r ≡ Ok Anything
@@ -38,7 +38,7 @@ pub anything_any : TakesAny asks.Anything
 anything_any r q x e =
     let k : Ok Anything ≡ Ok q = sym (anything_is r) ∙ e in
     let same : Anything ≡ q = cc in
-    ap (λ (w : Sought). taken w x) (sym same)
+    ap (λ (w : Sought). matches_field w x) (sym same)
 
 -- one more
 pub also_any : (ws : List Want) (i : ℕ) (w : Want) → slice_get ws i ≡ Some w → TakesAny w → (EachTakesAny (drop i ws) → EachTakesAny ws) → EachTakesAny (drop (i + 1) ws) → EachTakesAny ws

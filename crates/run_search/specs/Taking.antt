@@ -2,11 +2,11 @@
 use Rattle.std.specs.Prelude.{◌≡◌, ℤ, true, List, [], ◌∷◌, Ok}
 use Rattle.pml_program.specs.declared.expr.Want.{Want}
 use Rattle.promela_process.specs.declared.sought.Sought.{Sought}
-use Rattle.promela_process.specs.Expressions.{Reading, want, taken}
+use Rattle.promela_process.specs.Expressions.{Reading, want, matches_field}
 
 -- what is asked for a field takes any number
 abbrev pub TakesAny : Want → Type 0
-TakesAny w = (r : Reading) (q : Sought) (x : ℤ) → want w r ≡ Ok q → taken q x ≡ true
+TakesAny w = (r : Reading) (q : Sought) (x : ℤ) → want w r ≡ Ok q → matches_field q x ≡ true
 
 -- so does what is asked for each
 abbrev pub EachTakesAny : List Want → Type 0

@@ -19,11 +19,11 @@ use Rattle.pml_program.specs.declared.program.Proctype.{Proctype}
 use Rattle.pml_program.specs.declared.program.Program.{Program}
 use Rattle.promela_process.specs.Store.{Frame, with_number, ChannelState}
 use Rattle.pml_store.specs.Writing.{flat, joined}
-use Rattle.promela_run.specs.State.{size, slot_of, cell_of, fields_at, fields_of, last_field, leaf, Stand, State, begins_at, joined as joins, nothing, unread, read_in, cell_in, initial_value, with_value, with_values, with_channel, empty_channel, cell_begun, fields_begun, variable_begun, variables_begun, with_frame, frame_begun, variables_at, process_begun, sort_begun, sorts_begun, first_state}
+use Rattle.promela_run.specs.State.{size, slot_of, cell_of, fields_at, fields_of, last_field, leaf, Stand, State, begins_at, youngest_joined as joins, nothing, unread, read_in, youngest_cell, initial_value, with_value, with_values, with_channel, empty_channel, cell_begun, fields_begun, variable_begun, variables_begun, with_frame, frame_begun, variables_at, process_begun, sort_begun, sorts_begun, first_state}
 use Rattle.promela_run.specs.declared.live_channel.LiveChannel.{LiveChannel}
 use Rattle.run_start.specs.Shown.{Begins, shape}
 use Rattle.run_start.specs.Bound.{cells_of, largest, most_cells, room_by, room_of, room_of_fields, room_of_processes, most_room, room, AreBounded}
-use Rattle.promela_run.specs.Statements.{channels_of, with_arguments, created}
+use Rattle.promela_run.specs.Statements.{channels_made, with_arguments, created}
 use Rattle.run_start.specs.Starting.{IsDeclared}
 use Rattle.run_start.proofs.Chaining.{chain, chain_any}
 use Rattle.run_layout.specs.Tables.{slots_of}
@@ -82,7 +82,7 @@ channel_fits n v c m b r h = cases (nat_lt (length b.channels) 255) refl
     new = record { frame = length b.stands; channel = m }
 
     cases : (t : Bool) → nat_lt (length b.channels) 255 ≡ t →
-        IfOk {T = State} (if t then Ok (record b { frames = with_number b.frames (cell_in b v c) (pos (length b.channels + 1)); channels = b.channels ++ new ∷ [] }) else Err TooManyChannels) (Fits n)
+        IfOk {T = State} (if t then Ok (record b { frames = with_number b.frames (youngest_cell b v c) (pos (length b.channels + 1)); channels = b.channels ++ new ∷ [] }) else Err TooManyChannels) (Fits n)
     cases true e = (omega (arith, ltb-true (length b.channels) 255 e, length_push b.channels new), all_push n b.channels new h.1 r)
     cases false e = tt
 
@@ -172,7 +172,7 @@ module _ (n : ℕ) (ts : List Fields) (fields : room_of_fields ts ≤ n) where
   arguments_fit v (s ∷ ss) (x ∷ xs) b h = arguments_fit (v + 1) ss xs (with_value v 0 _ b) h
 
   created_fits : (y : Stand) (ss : List Slot) (xs : List ℤ) (b : State) → room_of ss ≤ n → Fits n b → IfOk (created ts y ss xs b) (Fits n)
-  created_fits y ss xs b r h = cases (nat_lt 255 (length b.channels + channels_of ts ss))
+  created_fits y ss xs b r h = cases (nat_lt 255 (length b.channels + channels_made ts ss))
     where
       cases : (t : Bool) → IfOk {T = State} (if t then Err TooManyChannels else variables_begun ts ss 0 (with_arguments 0 ss xs (with_process y ss b))) (Fits n)
       cases true = tt

@@ -10,7 +10,7 @@ use Rattle.pml_program.specs.declared.program.Program.{Program}
 use Rattle.promela_process.specs.Store.{Frame}
 use Rattle.pml_store.specs.Writing.{Contents}
 use Rattle.promela_run.specs.declared.live_channel.LiveChannel.{LiveChannel}
-use Rattle.promela_run.specs.State.{State, begins_at, joined, nothing, frame_begun, variables_at, process_begun}
+use Rattle.promela_run.specs.State.{State, begins_at, youngest_joined, nothing, frame_begun, variables_at, process_begun}
 use Rattle.run_start.specs.declared.started.Started.{Started}
 use Rattle.run_start.specs.Shown.{Begins, held, idle, shown, begun}
 use Rattle.run_start.proofs.Touching.{carried, frame_alike}
@@ -31,9 +31,9 @@ pub process_carried : (p : Program) (k : ℕ) (ts : List Fields) (ss : List Slot
 process_carried p k ts ss old mid new answer few types variables store channels sorts same b =
     let made : List Fields → List Slot → State → Result State Fault = λ x y s. frame_begun x y s in
     let room = lt-ltb (length (begun p old).stands) 255 (subst (λ (n : ℕ). n < 255) (sym (length-map old.sorts.items (begins_at p))) few) in
-    let begins : process_begun p k (begun p old) ≡ made p.typedefs (variables_at p k) (joined (begins_at p k) (begun p old)) =
-    ap (λ (t : Bool). if t then made p.typedefs (variables_at p k) (joined (begins_at p k) (begun p old)) else Ok (begun p old)) room in
-    let more : joined (begins_at p k) (begun p old) ≡ begun p mid =
+    let begins : process_begun p k (begun p old) ≡ made p.typedefs (variables_at p k) (youngest_joined (begins_at p k) (begun p old)) =
+    ap (λ (t : Bool). if t then made p.typedefs (variables_at p k) (youngest_joined (begins_at p k) (begun p old)) else Ok (begun p old)) room in
+    let more : youngest_joined (begins_at p k) (begun p old) ≡ begun p mid =
     ap (λ (x : Contents). held p x old.channels.items (map (begins_at p) old.sorts.items ++ begins_at p k ∷ [])) (sym store)
     ∙ ap (λ (x : List LiveChannel). held p mid.store x (map (begins_at p) old.sorts.items ++ begins_at p k ∷ [])) (sym channels)
     ∙ ap (held p mid.store mid.channels.items) (sym (map-append (begins_at p) old.sorts.items (k ∷ [])))

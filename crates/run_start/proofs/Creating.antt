@@ -8,7 +8,7 @@ use Rattle.pml_program.specs.declared.program.Slot.{Slot}
 use Rattle.promela_process.specs.declared.place.Place.{Place}
 use Rattle.promela_process.specs.Store.{Frame, Cells, frame_at, cells_at, with_number, zeros}
 use Rattle.pml_store.specs.Writing.{Contents, undone, before, but_last}
-use Rattle.promela_run.specs.State.{size, State, joined, with_value}
+use Rattle.promela_run.specs.State.{size, State, youngest_joined, with_value}
 use Rattle.promela_run.specs.declared.live_channel.LiveChannel.{LiveChannel}
 use Rattle.run_start.specs.declared.started.Started.{Started}
 use Rattle.promela_process.specs.Numbers.{clipped}
@@ -58,12 +58,12 @@ all_set ss vs variable b h = ⊎_elim
 pub process_sizes : (sort : ℕ) (ss : List Slot) (old new : Started) → shown new ≡ with_process (idle sort) ss (shown old) → length old.store.frames ≡ length old.sorts.items + 1 →
     map length (frame_at new.store.frames (length new.sorts.items)) ≡ map size ss
 process_sizes sort ss old new e l =
-    let many : length (joined (idle sort) (shown old)).stands ≡ length old.sorts.items + 1 = length_push (shown old).stands (idle sort) ∙ ap (λ (n : ℕ). n + 1) (counted old) in
-    subst (λ (n : ℕ). map length (frame_at new.store.frames n) ≡ map size ss) (counted new) (added_sizes ss (joined (idle sort) (shown old)) (shown new) e (l ∙ sym many))
+    let many : length (youngest_joined (idle sort) (shown old)).stands ≡ length old.sorts.items + 1 = length_push (shown old).stands (idle sort) ∙ ap (λ (n : ℕ). n + 1) (counted old) in
+    subst (λ (n : ℕ). map length (frame_at new.store.frames n) ≡ map size ss) (counted new) (added_sizes ss (youngest_joined (idle sort) (shown old)) (shown new) e (l ∙ sym many))
 
 -- and the frames have one more
 pub process_shape : (sort : ℕ) (ss : List Slot) (b n : State) → n ≡ with_process (idle sort) ss b → shape n.frames ≡ shape b.frames ++ map size ss ∷ []
-process_shape sort ss b n e = added_shape ss (joined (idle sort) b) n e
+process_shape sort ss b n e = added_shape ss (youngest_joined (idle sort) b) n e
 
 -- and the processes
 pub process_sorts : (sort : ℕ) (ss : List Slot) (old new : Started) → shown new ≡ with_process (idle sort) ss (shown old) → new.sorts.items ≡ old.sorts.items ++ sort ∷ []

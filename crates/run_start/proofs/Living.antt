@@ -4,7 +4,7 @@ use Rattle.std.proofs.lemmas.Bool.{ltb-true, ltb-false}
 use Rattle.std.proofs.lemmas.List.{length_push, length-take, length-map, map-append, take_all, take-append-le, append-nil}
 use Rattle.pml_program.specs.declared.program.Proctype.{Proctype}
 use Rattle.pml_program.specs.declared.program.Program.{Program}
-use Rattle.promela_run.specs.State.{Stand, State, begins_at, nothing, joined, frame_begun, process_begun, sort_begun, sorts_begun, first_state, variables_at}
+use Rattle.promela_run.specs.State.{Stand, State, begins_at, nothing, youngest_joined, frame_begun, process_begun, sort_begun, sorts_begun, first_state, variables_at}
 use Rattle.run_start.specs.Starting.{starting}
 use Rattle.run_start.specs.Laws.{IsFirst}
 use Rattle.run_start.proofs.Chaining.{chain, weaker}
@@ -51,7 +51,7 @@ process_are p k xs b e = cases (nat_lt (length b.stands) 255) refl
     count = ap length e.stands ∙ length-map (take 255 xs) (begins_at p)
 
     one : State
-    one = joined (begins_at p k) b
+    one = youngest_joined (begins_at p k) b
 
     more : length b.stands < 255 → Are p (xs ++ k ∷ []) one
     more h = record {

@@ -13,7 +13,7 @@ use Rattle.promela_run.specs.declared.live_channel.LiveChannel.{LiveChannel}
 use Rattle.diagnostics.specs.declared.fault.Fault.TheVariants.{TooManyChannels}
 use Rattle.pml_program.specs.declared.expr.Expr.{Expr}
 use Rattle.promela_run.specs.State.{State, nothing, frame_begun, with_values}
-use Rattle.promela_run.specs.Statements.{channels_of, with_arguments, created}
+use Rattle.promela_run.specs.Statements.{channels_made, with_arguments, created}
 use Rattle.run_start.specs.Shown.{no_program, idle}
 
 abbrev byte : Form
@@ -95,5 +95,5 @@ too_many : (value : Expr) → created [] (idle 7) (variable byte 0 1 1 (initial.
 too_many value = refl
 
 -- each cell that begins with a channel counts; with a value none does
-counted : (value : Expr) → channels_of [] (variable chan 0 3 1 (initial.Channel 0 []) ∷ variable chan 3 1 1 initial.Zero ∷ variable chan 4 2 1 (initial.Value value) ∷ []) ≡ 3
+counted : (value : Expr) → channels_made [] (variable chan 0 3 1 (initial.Channel 0 []) ∷ variable chan 3 1 1 initial.Zero ∷ variable chan 4 2 1 (initial.Value value) ∷ []) ≡ 3
 counted value = refl

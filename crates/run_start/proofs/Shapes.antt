@@ -8,7 +8,7 @@ use Rattle.promela_process.specs.declared.place.Place.{Place}
 use Rattle.promela_process.specs.Store.{Frame, frame_at, cells_at, size_at, with_number, zeros}
 use Rattle.pml_store.specs.Writing.{Contents, HasPlace, stored, before}
 use Rattle.pml_store.proofs.Back.{has_cell, before_set}
-use Rattle.promela_run.specs.State.{size, Stand, State, cell_in, with_frame}
+use Rattle.promela_run.specs.State.{size, Stand, State, youngest_cell, with_frame}
 use Rattle.promela_run.specs.declared.live_channel.LiveChannel.{LiveChannel}
 use Rattle.run_start.specs.declared.started.Started.{Started}
 use Rattle.run_start.specs.Shown.{shape, idle, shown}
@@ -100,10 +100,10 @@ same_sorts a b ys ks e h =
     sym (idle_sorts a.sorts.items) ∙ ap (map (λ (y : Stand). y.sort)) e ∙ map-append (λ (y : Stand). y.sort) (shown b).stands ys
     ∙ ap (λ (x : List ℕ). x ++ map (λ (y : Stand). y.sort) ys) (idle_sorts b.sorts.items) ∙ ap (λ (x : List ℕ). b.sorts.items ++ x) h
 
-pub place_is : (s : Started) (v c : ℕ) → ◌≡◌ {A = Place} (cell_in (shown s) v c) (record { frame = length s.sorts.items; variable = v; cell = c })
+pub place_is : (s : Started) (v c : ℕ) → ◌≡◌ {A = Place} (youngest_cell (shown s) v c) (record { frame = length s.sorts.items; variable = v; cell = c })
 place_is s v c = ap (λ (n : ℕ). record { frame = n; variable = v; cell = c }) (counted s)
 
-pub cell_there : (old new : Started) (i cell n : ℕ) → Keeps old new → size_at old.store.frames (length old.sorts.items) i ≡ n → cell < n → HasPlace new.store.frames (cell_in (shown new) i cell)
+pub cell_there : (old new : Started) (i cell n : ℕ) → Keeps old new → size_at old.store.frames (length old.sorts.items) i ≡ n → cell < n → HasPlace new.store.frames (youngest_cell (shown new) i cell)
 cell_there old new i cell n k e h =
     let s = size_now old new i n k e in
     subst (HasPlace new.store.frames) (sym (place_is new i cell)) (has_cell new.store.frames (record { frame = length new.sorts.items; variable = i; cell = cell }) (omega (arith, s, h)))

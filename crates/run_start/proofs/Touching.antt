@@ -14,8 +14,8 @@ use Rattle.promela_process.specs.Expressions.{◌>>=◌}
 use Rattle.promela_process.specs.Numbers.{clipped}
 use Rattle.promela_process.specs.Store.{Frame, with_number, zeros, ChannelState}
 use Rattle.promela_run.specs.declared.live_channel.LiveChannel.{LiveChannel}
-use Rattle.promela_run.specs.State.{size, leaf, Stand, State, reading_of, unread, read_in, initial_value, with_value, with_values, with_channel, empty_channel, cell_begun, fields_begun, variable_begun, variables_begun, with_frame, frame_begun, joined}
-use Rattle.promela_run.specs.Statements.{channels_of, with_arguments, created}
+use Rattle.promela_run.specs.State.{size, leaf, Stand, State, reading_of, unread, read_in, initial_value, with_value, with_values, with_channel, empty_channel, cell_begun, fields_begun, variable_begun, variables_begun, with_frame, frame_begun, youngest_joined}
+use Rattle.promela_run.specs.Statements.{channels_made, with_arguments, created}
 use Rattle.run_start.specs.Shown.{Begins}
 
 -- a state with other frames and channels
@@ -125,23 +125,23 @@ module _ (s t : State) where
 
 -- a process comes to the same in two states with as many processes, and with the same frames and channels
 pub created_alike : (ts : List Fields) (y z : Stand) (ss : List Slot) (vs : List ℤ) (s t : State) (fs : List Frame) (cs : List LiveChannel) → length s.stands ≡ length t.stands →
-    Alike (joined y s) (joined z t) (created ts y ss vs (over s fs cs)) (created ts z ss vs (over t fs cs))
-created_alike ts y z ss vs s t fs cs e = by (nat_lt 255 (length cs + channels_of ts ss))
+    Alike (youngest_joined y s) (youngest_joined z t) (created ts y ss vs (over s fs cs)) (created ts z ss vs (over t fs cs))
+created_alike ts y z ss vs s t fs cs e = by (nat_lt 255 (length cs + channels_made ts ss))
   where
-    many : length (joined y s).stands ≡ length (joined z t).stands
+    many : length (youngest_joined y s).stands ≡ length (youngest_joined z t).stands
     many = length_push s.stands y ∙ ap (λ (n : ℕ). n + 1) e ∙ sym (length_push t.stands z)
 
     made : Stand → State → Result State Fault
-    made x u = variables_begun ts ss 0 (with_arguments 0 ss vs (with_frame ss (over (joined x u) fs cs)))
+    made x u = variables_begun ts ss 0 (with_arguments 0 ss vs (with_frame ss (over (youngest_joined x u) fs cs)))
 
-    by : (b : Bool) → Alike (joined y s) (joined z t) (if b then Err TooManyChannels else made y s) (if b then Err TooManyChannels else made z t)
+    by : (b : Bool) → Alike (youngest_joined y s) (youngest_joined z t) (if b then Err TooManyChannels else made y s) (if b then Err TooManyChannels else made z t)
     by true = refl
-    by false = process_alike (joined y s) (joined z t) many ts ss vs fs cs
+    by false = process_alike (youngest_joined y s) (youngest_joined z t) many ts ss vs fs cs
 
 -- ---- nothing else is touched
 
 pub frame_touches : (ts : List Fields) (ss : List Slot) (s : State) → IfOk (frame_begun ts ss s) (Touched s)
 frame_touches ts ss s = touched_of s (frame_begun ts ss s) (frame_alike s s refl ts ss s.frames s.channels)
 
-pub created_touches : (ts : List Fields) (y : Stand) (ss : List Slot) (vs : List ℤ) (s : State) → IfOk (created ts y ss vs s) (Touched (joined y s))
-created_touches ts y ss vs s = touched_of (joined y s) (created ts y ss vs s) (created_alike ts y y ss vs s s s.frames s.channels refl)
+pub created_touches : (ts : List Fields) (y : Stand) (ss : List Slot) (vs : List ℤ) (s : State) → IfOk (created ts y ss vs s) (Touched (youngest_joined y s))
+created_touches ts y ss vs s = touched_of (youngest_joined y s) (created ts y ss vs s) (created_alike ts y y ss vs s s s.frames s.channels refl)

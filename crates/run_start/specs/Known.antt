@@ -12,7 +12,7 @@ use Rattle.diagnostics.specs.declared.fault.Fault.{Fault}
 use Rattle.run_start.specs.declared.started.Started.{Started}
 use Rattle.promela_run.specs.declared.beginning.Beginning.{Beginning}
 use Rattle.promela_run.specs.declared.beginning.Beginning.TheVariants.{Nothing, Number, Fails, Channel}
-use Rattle.promela_run.specs.State.{leaf, Stand, State, unread, initial_value, cell_begun, with_frame, joined, variables_begun}
+use Rattle.promela_run.specs.State.{leaf, Stand, State, unread, initial_value, cell_begun, with_frame, youngest_joined, variables_begun}
 use Rattle.promela_run.specs.Statements.{with_arguments}
 use Rattle.run_start.specs.Shown.{shape}
 
@@ -90,7 +90,7 @@ leaf_begun ts s variable cell = cell_begun (leaf ts s cell).initial (leaf ts s c
 
 -- a process more that stands so, with nothing in its variables
 abbrev pub with_process : Stand → List Slot → State → State
-with_process y ss b = with_frame ss (joined y b)
+with_process y ss b = with_frame ss (youngest_joined y b)
 
 -- variables are begun: the first of them with arguments, the others as they are declared
 abbrev pub begun_with : List Fields → List Slot → List ℤ → State → Result State Fault

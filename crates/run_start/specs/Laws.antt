@@ -9,7 +9,7 @@ use Rattle.pml_program.specs.declared.program.Fields.{Fields}
 use Rattle.pml_program.specs.declared.program.Program.{Program}
 use Rattle.promela_process.specs.declared.place.Place.{Place}
 use Rattle.promela_process.specs.Store.{number_at, size_at}
-use Rattle.promela_run.specs.State.{size, State, begins_at, cell_in, read_in, empty_channel, initial_value, variable_begun, first_state}
+use Rattle.promela_run.specs.State.{size, State, begins_at, youngest_cell, read_in, empty_channel, initial_value, variable_begun, first_state}
 use Rattle.run_start.specs.Known.{IsPlain, is_of}
 use Rattle.run_start.specs.Starting.{starting}
 
@@ -31,7 +31,7 @@ IsThere b v s = size_at b.frames (length b.stands) v ≡ size s
 -- each cell of a variable holds the one value of its initialiser
 abbrev pub EachCellHolds : Type 0
 EachCellHolds = (ts : List Fields) (s : Slot) (e : Expr) (v c : ℕ) (b : State) → IsThere b v s → c < size s →
-    IfOk (variable_begun ts (Given e) s v b) (λ n. initial_value e s.form (read_in b) ≡ Ok (number_at n.frames (cell_in b v c)))
+    IfOk (variable_begun ts (Given e) s v b) (λ n. initial_value e s.form (read_in b) ≡ Ok (number_at n.frames (youngest_cell b v c)))
 
 -- a variable without an initialiser and without fields changes nothing
 abbrev pub NothingBegins : Type 0
@@ -53,4 +53,4 @@ ChannelsAreMade = (ts : List Fields) (s : Slot) (v capacity : ℕ) (types : List
 abbrev pub ChannelsAreNumbered : Type 0
 ChannelsAreNumbered = (ts : List Fields) (s : Slot) (v c capacity : ℕ) (types : List Form) (b : State) → IsThere b v s → IsPlain s.form
     → s.initial ≡ Made capacity types → c < size s →
-    IfOk (variable_begun ts s.initial s v b) (λ n. number_at n.frames (cell_in b v c) ≡ pos (length b.channels + c + 1))
+    IfOk (variable_begun ts s.initial s v b) (λ n. number_at n.frames (youngest_cell b v c) ≡ pos (length b.channels + c + 1))

@@ -4,7 +4,7 @@ ghost use Rattle.std.specs.Prelude.{◌≡◌, ◌+◌, ◌<◌, ◌≤◌, ◌+
 ghost use Rattle.profile.specs.declared.TheConstants.{MOST_PROCESSES};
 ghost use Rattle.promela_process.specs.Store.{frame_at, size_at};
 ghost use Rattle.pml_store.specs.Writing.{HasPlace, joined};
-ghost use Rattle.promela_run.specs.State.{initial_value, read_in, cell_in, with_value, with_frame, with_channel, empty_channel, cell_begun, with_values, fields_begun, variable_begun, variables_begun, frame_begun, size, leaf};
+ghost use Rattle.promela_run.specs.State.{initial_value, read_in, youngest_cell, with_value, with_frame, with_channel, empty_channel, cell_begun, with_values, fields_begun, variable_begun, variables_begun, frame_begun, size, leaf};
 ghost use Rattle.run_start.specs.Shown.{Begins, shown, shape};
 ghost use Rattle.run_start.specs.Bound.{cells_of};
 ghost use Rattle.run_start.specs.Known.{Keeps, known, leaf_begun};
@@ -47,7 +47,7 @@ pub fn store_number(
     cell: usize,
     number: i32,
 ) -> Result<(), Stop>
-    requires { HasPlace started.old.store.frames (cell_in (shown started.old) variable cell) }
+    requires { HasPlace started.old.store.frames (youngest_cell (shown started.old) variable cell) }
     ensures value { Begins (Ok (with_value variable cell number (shown started.old))) result (shown started.new) }
     ensures keeps { Keeps started.old started.new }
 {
@@ -67,7 +67,7 @@ fn make_channel(
     capacity: u32,
     types: &[Form],
 ) -> Result<(), Stop>
-    requires { HasPlace started.old.store.frames (cell_in (shown started.old) variable cell) }
+    requires { HasPlace started.old.store.frames (youngest_cell (shown started.old) variable cell) }
     ensures value { Begins (with_channel variable cell (empty_channel capacity types.now) (shown started.old)) result (shown started.new) }
     ensures keeps { Keeps started.old started.new }
 {
@@ -94,7 +94,7 @@ fn begin_cell(
     cell: usize,
     slot: &Slot<'_>,
 ) -> Result<(), Stop>
-    requires { HasPlace started.old.store.frames (cell_in (shown started.old) variable cell) }
+    requires { HasPlace started.old.store.frames (youngest_cell (shown started.old) variable cell) }
     ensures value { Begins (cell_begun slot.now.initial slot.now.form variable cell (shown started.old)) result (shown started.new) }
     ensures keeps { Keeps started.old started.new }
 {
@@ -118,7 +118,7 @@ fn begin_leaf(
     slot: &Slot<'_>,
     cell: usize,
 ) -> Result<(), Stop>
-    requires { HasPlace started.old.store.frames (cell_in (shown started.old) variable cell) }
+    requires { HasPlace started.old.store.frames (youngest_cell (shown started.old) variable cell) }
     ensures value { Begins (leaf_begun beginnings.now.typedefs slot.now variable cell (shown started.old)) result (shown started.new) }
     ensures keeps { Keeps started.old started.new }
 {
@@ -143,7 +143,7 @@ fn begin_known(
     beginning: Beginning,
 ) -> Result<(), Stop>
     requires known { beginning ≡ known (leaf beginnings.now.typedefs slot.now cell) }
-    requires there { HasPlace started.old.store.frames (cell_in (shown started.old) variable cell) }
+    requires there { HasPlace started.old.store.frames (youngest_cell (shown started.old) variable cell) }
     ensures value { Begins (leaf_begun beginnings.now.typedefs slot.now variable cell (shown started.old)) result (shown started.new) }
     ensures keeps { Keeps started.old started.new }
 {

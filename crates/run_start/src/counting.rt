@@ -4,7 +4,7 @@ ghost use Rattle.std.specs.Prelude.{◌≡◌, ◌+◌, ◌≤◌, min, length, 
 ghost use Rattle.profile.specs.declared.TheConstants.{MOST_CHANNELS};
 ghost use Rattle.promela_run.specs.State.{size};
 ghost use Rattle.run_start.specs.Channels.{channels_at};
-ghost use Rattle.promela_run.specs.Statements.{channels_in, channels_by, channels_of};
+ghost use Rattle.promela_run.specs.Statements.{channels_among, channels_by, channels_made};
 
 use crate::beginnings::{Beginnings, is_zero};
 use pml_program::program::{Initial, Slot};
@@ -32,7 +32,7 @@ fn count_cells(
     counted: usize,
 ) -> Result<usize, AllocError>
     requires { counted ≤ MOST_CHANNELS + 1 }
-    ensures { IfOk result (λ n. n ≡ min (MOST_CHANNELS + 1) (counted + channels_in beginnings.now.typedefs slot.now 0 (size slot.now))) }
+    ensures { IfOk result (λ n. n ≡ min (MOST_CHANNELS + 1) (counted + channels_among beginnings.now.typedefs slot.now 0 (size slot.now))) }
 {
     if beginnings.are_nothing() && is_zero(&slot.initial) {
         return Ok(counted);
@@ -69,7 +69,7 @@ pub fn are_too_many(
     slots: &[Slot<'_>],
     live: usize,
 ) -> Result<bool, AllocError>
-    ensures { IfOk result (λ b. b ≡ nat_lt MOST_CHANNELS (live + channels_of beginnings.now.typedefs slots.now)) }
+    ensures { IfOk result (λ b. b ≡ nat_lt MOST_CHANNELS (live + channels_made beginnings.now.typedefs slots.now)) }
 {
     let mut count = live.min(MOST_CHANNELS + 1);
     for slot in slots {

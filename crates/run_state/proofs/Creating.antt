@@ -14,7 +14,7 @@ use Rattle.pml_program.specs.declared.program.Program.{Program}
 use Rattle.promela_process.specs.Store.{Frame}
 use Rattle.pml_store.specs.Writing.{Contents, joined as cells}
 use Rattle.promela_run.specs.declared.live_channel.LiveChannel.{LiveChannel}
-use Rattle.promela_run.specs.State.{size, variables_at, Stand, State, body_of, first_control, begins_at, joined}
+use Rattle.promela_run.specs.State.{size, variables_at, Stand, State, body_of, first_control, begins_at, youngest_joined}
 use Rattle.run_start.specs.Shown.{Begins, held, no_program, idle, shape}
 use Rattle.promela_run.specs.Statements.{created}
 use Rattle.run_start.specs.Bound.{cells_of, AreBounded}
@@ -99,12 +99,12 @@ module _ (p : Program) (store new : Contents) (cs ds : List LiveChannel) (ks ls 
   abbrev first_stand : Stand
   first_stand = record { sort = x.sort; control = first_control q.body }
 
-  seen : stand_of p x ≡ first_stand → ys ≡ xs ++ x ∷ [] → is_now ≡ over (joined first_stand was) new.frames ds
+  seen : stand_of p x ≡ first_stand → ys ≡ xs ++ x ∷ [] → is_now ≡ over (youngest_joined first_stand was) new.frames ds
   seen s y =
       ap (λ (zs : List Seat). (live_of p new ds zs holder lossy).state) y
       ∙ ap (λ (zs : List Stand). record was { frames = new.frames; channels = ds; stands = zs }) (map_push (stand_of p) xs x ∙ ap (λ (z : Stand). was.stands ++ z ∷ []) s)
 
-  by_begun : (b : Result State Fault) (r : Result (Unit {0}) Stop) → Begins b r (over (joined first_stand was) new.frames ds) → stand_of p x ≡ first_stand → OnOk r (ys ≡ xs ++ x ∷ []) → Leads b r is_now
+  by_begun : (b : Result State Fault) (r : Result (Unit {0}) Stop) → Begins b r (over (youngest_joined first_stand was) new.frames ds) → stand_of p x ≡ first_stand → OnOk r (ys ≡ xs ++ x ∷ []) → Leads b r is_now
   by_begun (Ok b) (Ok u) h s y = seen s y ∙ h
   by_begun (Ok b) (Err stop.Memory) h s y = tt
   by_begun (Ok b) (Err (stop.Fault f)) h s y = absurd h
@@ -121,10 +121,10 @@ module _ (p : Program) (store new : Contents) (cs ds : List LiveChannel) (ks ls 
       let many : length was.stands ≡ length (map idle ks) =
       length-map xs (stand_of p) ∙ sym (length-map xs (λ (x : Seat). x.sort)) ∙ sym (ap length k) ∙ sym (length-map ks idle) in
       let alike = created_alike ts first_stand (idle x.sort) q.variables vs was (bare store cs ks) store.frames cs many in
-      let one : Begins (created ts first_stand q.variables vs was) r (over (joined first_stand was) new.frames ds) =
-      carried (joined first_stand was) (joined (idle x.sort) (bare store cs ks)) (created ts first_stand q.variables vs was) (created ts (idle x.sort) q.variables vs (bare store cs ks)) r (bare new ds ls) alike h in
-      let two : Begins (created p.typedefs first_stand q.variables vs was) r (over (joined first_stand was) new.frames ds) =
-      subst (λ (l : List Fields). Begins (created l first_stand q.variables vs was) r (over (joined first_stand was) new.frames ds)) t one in
+      let one : Begins (created ts first_stand q.variables vs was) r (over (youngest_joined first_stand was) new.frames ds) =
+      carried (youngest_joined first_stand was) (youngest_joined (idle x.sort) (bare store cs ks)) (created ts first_stand q.variables vs was) (created ts (idle x.sort) q.variables vs (bare store cs ks)) r (bare new ds ls) alike h in
+      let two : Begins (created p.typedefs first_stand q.variables vs was) r (over (youngest_joined first_stand was) new.frames ds) =
+      subst (λ (l : List Fields). Begins (created l first_stand q.variables vs was) r (over (youngest_joined first_stand was) new.frames ds)) t one in
       subst (λ (o : Option Proctype). Leads (with_new was x.sort o vs) r is_now) (sym e)
       (by_begun (created p.typedefs first_stand q.variables vs was) r two (s ∙ ap (begins_by x.sort) body) y)
 

@@ -26,7 +26,7 @@ use Rattle.run_step.specs.Inside.{Advance, Advances, then_at, advanced_by, advan
 use Rattle.run_state.specs.Live.{Joins, PastGrows}
 use Rattle.run_step.specs.Done.{Does}
 use Rattle.promela_run.specs.World.{Running}
-use Rattle.promela_run.specs.Steps.{Done, body_by, effect, behind, first_of, onward, within}
+use Rattle.promela_run.specs.Steps.{Done, body_by, effect, behind_printed, first_of, onward, within}
 
 -- the first choice among the edges of a node is that among the offers of what it stands for
 pub first_shown : (k : Body) (n : ℕ) (b : Seq) (lossy loses : Bool) (cs ds : List LiveChannel) (q r : Reading) (e : Option Edge) → IsBody k → b ≡ k.proctype.now.body → lossy ≡ loses → cs ≡ ds → q ≡ r
@@ -49,30 +49,30 @@ body_same s p k b f h = let g : Some k.proctype.now.body ≡ Some b = f ∙ h in
 -- ---- the loop
 
 -- what was printed first stands first
-behind_behind : (xs ys : List ℕ) (r : Result Done Fault) → ((r >>= behind ys) >>= behind xs) ≡ (r >>= behind (xs ++ ys))
+behind_behind : (xs ys : List ℕ) (r : Result Done Fault) → ((r >>= behind_printed ys) >>= behind_printed xs) ≡ (r >>= behind_printed (xs ++ ys))
 behind_behind xs ys (Ok d) = ap (λ (bytes : List ℕ). Ok (record { state = d.state; printed = bytes })) (sym (append_assoc xs ys d.printed))
 behind_behind xs ys (Err f) = refl
 
-behind_none : (r : Result Done Fault) → (r >>= behind []) ≡ r
+behind_none : (r : Result Done Fault) → (r >>= behind_printed []) ≡ r
 behind_none (Ok d) = refl
 behind_none (Err f) = refl
 
 -- after one statement, at most n more
 abbrev goes_on : ℕ → ℕ → Seq → Option Control → Done → Result Done Fault
 goes_on n p b None d = Ok d
-goes_on n p b (Some c) d = within n d.state p false b c >>= behind d.printed
+goes_on n p b (Some c) d = within n d.state p false b c >>= behind_printed d.printed
 
 one_done : (n : ℕ) (p : ℕ) (b : Seq) (o : Offer) (r : Result Done Fault)
-    → (r >>= λ d. onward o.stays d (λ e. within n e.state p false b o.next >>= behind e.printed)) ≡ (r >>= then_at o >>= λ x. goes_on n p b x.next x.done)
+    → (r >>= λ d. onward o.stays d (λ e. within n e.state p false b o.next >>= behind_printed e.printed)) ≡ (r >>= then_at o >>= λ x. goes_on n p b x.next x.done)
 one_done n p b o (Err f) = refl
 one_done n p b o (Ok d) = by_case o.stays
   where
-    by_case : (stays : Bool) → onward stays d (λ e. within n e.state p false b o.next >>= behind e.printed) ≡ goes_on n p b (if stays then Some o.next else None) d
+    by_case : (stays : Bool) → onward stays d (λ e. within n e.state p false b o.next >>= behind_printed e.printed) ≡ goes_on n p b (if stays then Some o.next else None) d
     by_case true = refl
     by_case false = refl
 
 first_done : (n : ℕ) (s : State) (p : ℕ) (t : Bool) (b : Seq) (os : List Offer)
-    → first_of os (λ o. effect s p t o.basic >>= λ d. onward o.stays d (λ e. within n e.state p false b o.next >>= behind e.printed))
+    → first_of os (λ o. effect s p t o.basic >>= λ d. onward o.stays d (λ e. within n e.state p false b o.next >>= behind_printed e.printed))
     ≡ (advanced_by s p t (first os) >>= λ x. goes_on n p b x.next x.done)
 first_done n s p t b [] = refl
 first_done n s p t b (o ∷ os) = one_done n p b o (effect s p t o.basic)
@@ -85,7 +85,7 @@ one_more n s p t b c = first_done n s p t b (choices s.lossy s.channels (reads s
 pub record Follows (b : Seq) (most i : ℕ) (old now : State) (p : ℕ) (t u : Bool) (c d : Control) (before after : List ℕ) : Type 0 where
   pub printed : List ℕ
   pub text : after ≡ before ++ printed
-  pub rest : (n : ℕ) → n + i ≡ most → (within n now p u b d >>= behind printed) ≡ within most old p t b c
+  pub rest : (n : ℕ) → n + i ≡ most → (within n now p u b d >>= behind_printed printed) ≡ within most old p t b c
 
 pub follows_first : (b : Seq) (most : ℕ) (s : State) (p : ℕ) (t : Bool) (c : Control) (before : List ℕ) → Follows b most 0 s s p t t c c before before
 follows_first b most s p t c before = record {
@@ -97,10 +97,10 @@ follows_first b most s p t c before = record {
 -- one statement of those that are left
 after_one : (b : Seq) (most i : ℕ) (old now : State) (p : ℕ) (t u : Bool) (c d : Control) (before after : List ℕ) (n : ℕ) (r : Result Advance Fault)
     → (f : Follows b most i old now p t u c d before after) → suc n + i ≡ most → advanced now p u b d ≡ r
-    → ((r >>= λ x. goes_on n p b x.next x.done) >>= behind f.printed) ≡ within most old p t b c
+    → ((r >>= λ x. goes_on n p b x.next x.done) >>= behind_printed f.printed) ≡ within most old p t b c
 after_one b most i old now p t u c d before after n r f e a =
-    ap (λ (y : Result Advance Fault). (y >>= λ x. goes_on n p b x.next x.done) >>= behind f.printed) (sym a)
-    ∙ ap (λ (y : Result Done Fault). y >>= behind f.printed) (sym (one_more n now p u b d))
+    ap (λ (y : Result Advance Fault). (y >>= λ x. goes_on n p b x.next x.done) >>= behind_printed f.printed) (sym a)
+    ∙ ap (λ (y : Result Done Fault). y >>= behind_printed f.printed) (sym (one_more n now p u b d))
     ∙ f.rest (suc n) e
 
 -- control stays inside
@@ -116,9 +116,9 @@ follows_next b most i old now new p t u c d m before mid after f h = by_case (ad
       text = k.1 ∙ ap (λ (bytes : List ℕ). bytes ++ x.done.printed) f.text ∙ append_assoc before f.printed x.done.printed;
       rest = λ n e.
           let l : suc n + i ≡ most = omega (arith, e) in
-          ap (λ (s : State). within n s p false b (point_at b m) >>= behind (f.printed ++ x.done.printed)) k.0
+          ap (λ (s : State). within n s p false b (point_at b m) >>= behind_printed (f.printed ++ x.done.printed)) k.0
           ∙ sym (behind_behind f.printed x.done.printed (within n x.done.state p false b (point_at b m)))
-          ∙ ap (λ (o : Option Control). goes_on n p b o x.done >>= behind f.printed) (sym k.2)
+          ∙ ap (λ (o : Option Control). goes_on n p b o x.done >>= behind_printed f.printed) (sym k.2)
           ∙ after_one b most i old now p t u c d before mid n (Ok x) f l a;
     }
 
@@ -133,7 +133,7 @@ follows_left b most i old now new p t u c d before mid after l f h = by_case (ad
     by_case (Ok x) a k =
         let n : suc (most - (i + 1)) + i ≡ most = omega (arith, l) in
         let all : Ok (record { state = x.done.state; printed = f.printed ++ x.done.printed }) ≡ within most old p t b c =
-        ap (λ (o : Option Control). goes_on (most - (i + 1)) p b o x.done >>= behind f.printed) (sym k.2)
+        ap (λ (o : Option Control). goes_on (most - (i + 1)) p b o x.done >>= behind_printed f.printed) (sym k.2)
         ∙ after_one b most i old now p t u c d before mid (most - (i + 1)) (Ok x) f n a in
         subst (λ (r : Result Done Fault). Does r (Ok tt) new before after) all
         (k.0, k.1 ∙ ap (λ (bytes : List ℕ). bytes ++ x.done.printed) f.text ∙ append_assoc before f.printed x.done.printed)

@@ -7,7 +7,7 @@ ghost use Rattle.promela_run.specs.declared.moves.Move.TheVariants.{Alone, Pair}
 ghost use Rattle.profile.specs.declared.TheConstants.{MOST_DSTEP_STATEMENTS};
 ghost use Rattle.run_step.specs.Done.{Does, Grows};
 ghost use Rattle.run_state.specs.Live.{Joins, PastGrows};
-ghost use Rattle.promela_run.specs.Steps.{step};
+ghost use Rattle.promela_run.specs.Steps.{after_move};
 ghost use Rattle.run_step.specs.Taking.{IsOffer, DoesWithin, DoesOffer, CanDie, PastBy};
 
 use crate::effect::effect;
@@ -85,7 +85,7 @@ fn alone(
     timeout: bool,
     text: &mut Vec<u8>,
 ) -> Result<(), Stop>
-    ensures value { let d = step MOST_DSTEP_STATEMENTS live.old.state (Alone pick.now timeout) in
+    ensures value { let d = after_move MOST_DSTEP_STATEMENTS live.old.state (Alone pick.now timeout) in
         Does d result live.new.state text.old.items text.new.items }
     ensures kept { OnErr result (StartsWith text.new.items text.old.items) }
     ensures joins { OnErr result (Joins live.old.state live.new.state) }
@@ -112,8 +112,7 @@ fn pass_on(
 ) -> Result<(), Stop>
     requires sends { IsOffer live.old.state sender sent.now }
     requires receives { IsOffer live.old.state receiver received.now }
-    ensures value { let d = step MOST_DSTEP_STATEMENTS live.old.state (Pair sender receiver timeout) in
-        (text : List ℕ) → Does d result live.new.state text text }
+    ensures value { (text : List ℕ) → Does (after_move MOST_DSTEP_STATEMENTS live.old.state (Pair sender receiver timeout)) result live.new.state text text }
     ensures joins { OnErr result (Joins live.old.state live.new.state) }
     ensures program { live.new.state.program ≡ live.old.state.program }
     ensures past { OnOk result (PastGrows live.old live.new) }
@@ -134,8 +133,7 @@ fn pass_on(
 /// Two processes meet.
 #[inline(never)]
 fn pair(live: &mut Live<'_, '_>, sender: Pick, receiver: Pick, timeout: bool) -> Result<(), Stop>
-    ensures value { let d = step MOST_DSTEP_STATEMENTS live.old.state (Pair sender receiver timeout) in
-        (text : List ℕ) → Does d result live.new.state text text }
+    ensures value { (text : List ℕ) → Does (after_move MOST_DSTEP_STATEMENTS live.old.state (Pair sender receiver timeout)) result live.new.state text text }
     ensures joins { OnErr result (Joins live.old.state live.new.state) }
     ensures program { live.new.state.program ≡ live.old.state.program }
     ensures past { OnOk result (PastGrows live.old live.new) }
@@ -154,7 +152,7 @@ fn pair(live: &mut Live<'_, '_>, sender: Pick, receiver: Pick, timeout: bool) ->
 #[inline(always)]
 pub fn take(live: &mut Live<'_, '_>, m: &Move, text: &mut Vec<u8>) -> Result<(), Stop>
     requires { CanDie live.old.state m.now }
-    ensures value { Does (step MOST_DSTEP_STATEMENTS live.old.state m.now) result live.new.state text.old.items text.new.items }
+    ensures value { Does (after_move MOST_DSTEP_STATEMENTS live.old.state m.now) result live.new.state text.old.items text.new.items }
     ensures kept { OnErr result (StartsWith text.new.items text.old.items) }
     ensures joins { OnErr result (Joins live.old.state live.new.state) }
     ensures program { live.new.state.program ≡ live.old.state.program }

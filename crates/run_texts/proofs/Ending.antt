@@ -6,7 +6,7 @@ use Rattle.std.proofs.lemmas.Bool.Decides.{eqb_tells}
 use Rattle.pml_program.specs.declared.program.Stmt.{Stmt}
 use Rattle.pml_program.specs.declared.program.Seq.{Seq}
 use Rattle.pml_program.specs.declared.program.Basic.{Basic}
-use Rattle.promela_process.specs.Control.{Descent, Position, Todo, Back, Under, InAtomic, InDStep, Control, steps, basic_at, sequence, at, all_of, settle}
+use Rattle.promela_process.specs.Control.{Descent, Position, Todo, Back, Under, InAtomic, InDStep, Control, steps, basic_at, sequence_at, at, all_of, settle}
 use Rattle.pml_control.proofs.Positions as positions
 use Rattle.pml_control.proofs.Reaching.{IsAt}
 use Rattle.pml_control.proofs.Circling.{got}
@@ -17,7 +17,7 @@ use Rattle.pml_flow.specs.Graph.{Placed, IsGraph, Graph, is_end_at}
 use Rattle.pml_flow.proofs.Begun.{begun}
 use Rattle.pml_flow.proofs.Beginning.{read}
 use Rattle.pml_flow.proofs.Differing.{placed}
-use Rattle.promela_run.specs.World.{standing, is_end, may_end}
+use Rattle.promela_run.specs.World.{standing, is_end_place, may_end}
 use Rattle.run_texts.proofs.Settled.{settled_at}
 use Rattle.run_texts.proofs.Stated.{stated_at, is_among_all}
 
@@ -89,7 +89,7 @@ module _ (b : Seq) where
     first : standing c ≡ Some place
     is : at (steps b) place ≡ c
 
-  stands_by : (c : Control) (h : Placed b c) → (c ≡ [] → ⊥) → (o : Option Basic) → basic_at (sequence (steps b) h.position.0) h.position.1 ≡ o → Stands c
+  stands_by : (c : Control) (h : Placed b c) → (c ≡ [] → ⊥) → (o : Option Basic) → basic_at (sequence_at (steps b) h.position.0) h.position.1 ≡ o → Stands c
   stands_by c h l None e = absurd (l (sym h.is ∙ h.point.stands e))
   stands_by c h l (Some x) e = record {
     place = h.position;
@@ -98,7 +98,7 @@ module _ (b : Seq) where
   }
 
   stands : (c : Control) → Placed b c → (c ≡ [] → ⊥) → Stands c
-  stands c h l = stands_by c h l (basic_at (sequence (steps b) h.position.0) h.position.1) refl
+  stands c h l = stands_by c h l (basic_at (sequence_at (steps b) h.position.0) h.position.1) refl
 
   -- where the same stands first, the same is to do
   same : (c d : Control) (p : Position) → at (steps b) p ≡ c → IsAt (steps b) d → same_position (standing d) (Some p) ≡ true → d ≡ c
@@ -109,34 +109,34 @@ module _ (b : Seq) where
   same c (InAtomic q ∷ d) p e i h = cc
   same c (InDStep q ∷ d) p e i h = cc
 
-  sound : (c : Control) → Stands c → list_any (is_end b c) (all_of b) ≡ true → IsValidEnd b c
+  sound : (c : Control) → Stands c → list_any (is_end_place b c) (all_of b) ≡ true → IsValidEnd b c
   sound c s h =
-      let r = passes (is_end b c) (all_of b) h in
+      let r = passes (is_end_place b c) (all_of b) h in
       let p : Position = r.item.0 in
       let d : Control = at (steps b) p in
       let a = both (any_end r.item.1.labels) (same_position (standing (settle b d)) (standing c)) r.does in
       let e : same_position (standing (settle b d)) (Some s.place) ≡ true = ap (same_position (standing (settle b d))) (sym s.first) ∙ a.1 in
       by_label p (ap has_end (stated_at b r.index r.item r.there) ∙ a.0) (same c (settle b d) s.place s.is (settled_at b d (record { position = p; is = refl })) e)
 
-  complete : (c : Control) → Stands c → (c ≡ [] → ⊥) → IsValidEnd b c → list_any (is_end b c) (all_of b) ≡ true
+  complete : (c : Control) → Stands c → (c ≡ [] → ⊥) → IsValidEnd b c → list_any (is_end_place b c) (all_of b) ≡ true
   complete c s l (at_end e) = absurd (l e)
   complete c s l (by_label p f e) = by_statement (statement_at b p) refl f
     where
-      by_statement : (o : Option Stmt) → statement_at b p ≡ o → has_end o ≡ true → list_any (is_end b c) (all_of b) ≡ true
+      by_statement : (o : Option Stmt) → statement_at b p ≡ o → has_end o ≡ true → list_any (is_end_place b c) (all_of b) ≡ true
       by_statement None g f = cc
       by_statement (Some x) g f =
           let m : same_position (standing (settle b (at (steps b) p))) (standing c) ≡ true =
           ap (λ z. same_position (standing z) (standing c)) e ∙ ap (λ z. same_position z z) s.first ∙ place_same s.place in
-          is_among_all b (is_end b c) p x g (ap (λ t. t && same_position (standing (settle b (at (steps b) p))) (standing c)) f ∙ m)
+          is_among_all b (is_end_place b c) p x g (ap (λ t. t && same_position (standing (settle b (at (steps b) p))) (standing c)) f ∙ m)
 
   pub decides : (c : Control) → Placed b c → MatchBool (may_end b c) (IsValidEnd b c) (IsValidEnd b c → ⊥)
   decides [] h = at_end refl
-  decides (f ∷ c) h = by_case (list_any (is_end b (f ∷ c)) (all_of b)) refl
+  decides (f ∷ c) h = by_case (list_any (is_end_place b (f ∷ c)) (all_of b)) refl
     where
       left : f ∷ c ≡ [] → ⊥
       left e = cc
 
-      by_case : (t : Bool) → list_any (is_end b (f ∷ c)) (all_of b) ≡ t → MatchBool t (IsValidEnd b (f ∷ c)) (IsValidEnd b (f ∷ c) → ⊥)
+      by_case : (t : Bool) → list_any (is_end_place b (f ∷ c)) (all_of b) ≡ t → MatchBool t (IsValidEnd b (f ∷ c)) (IsValidEnd b (f ∷ c) → ⊥)
       by_case true e = sound (f ∷ c) (stands (f ∷ c) h left) e
       by_case false e = λ v. let z : true ≡ false = sym (complete (f ∷ c) (stands (f ∷ c) h left) left v) ∙ e in cc
 

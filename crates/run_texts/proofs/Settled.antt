@@ -4,7 +4,7 @@ use Rattle.std.specs.Prelude.{slice_get}
 use Rattle.pml_program.specs.declared.program.Stmt.{Stmt}
 use Rattle.pml_program.specs.declared.program.Seq.{Seq}
 use Rattle.pml_program.specs.declared.program.Basic.{Basic, Plain, Goto, Break, If', Do', Block, Atomic, DStep, Unless}
-use Rattle.promela_process.specs.Control.{Descent, Position, Todo, Control, steps, basic_at, sequence, beyond, behind, at, position_of, all_of, into, broken, in_d_step, move_on, settle, settle_within, most_moves}
+use Rattle.promela_process.specs.Control.{Descent, Position, Todo, Control, steps, basic_at, sequence_at, beyond, behind, at, position_of, all_of, into_arm, behind_break, in_d_step, move_on, settle, settle_within, most_moves}
 use Rattle.pml_control.proofs.Words.{basic_of, behind_of, at_position, go_on}
 use Rattle.pml_control.proofs.Positions.{stands, past, entered}
 use Rattle.pml_control.proofs.Reaching.{IsAt}
@@ -33,11 +33,11 @@ module _ (b : Seq) where
 
   -- ---- a break
 
-  broken_behind : (p : Position) (o : Option Stmt) (k : ℕ) (c : Control) → IsAt bs c → IsAt bs (broken c) → IsAt bs (broken (behind_of p o k c))
+  broken_behind : (p : Position) (o : Option Stmt) (k : ℕ) (c : Control) → IsAt bs c → IsAt bs (behind_break c) → IsAt bs (behind_break (behind_of p o k c))
   broken_behind p None k c i h = nothing
   broken_behind p (Some s) k c i h = by_case s.basic k
     where
-      by_case : (x : Basic) (k : ℕ) → IsAt bs (broken (behind p x k c))
+      by_case : (x : Basic) (k : ℕ) → IsAt bs (behind_break (behind p x k c))
       by_case (Plain a) k = h
       by_case (Goto l) k = h
       by_case Break k = h
@@ -49,24 +49,24 @@ module _ (b : Seq) where
       by_case (Unless s e) zero = h
       by_case (Unless s e) (suc k) = h
 
-  broken_at : (q : List Descent) (i : ℕ) → IsAt bs (broken (beyond bs q)) → IsAt bs (broken (at bs (q, i)))
-  broken_at q i h = subst (λ (c : Control). IsAt bs c) (sym (broken_todos q i (drop i (sequence bs q)) (beyond bs q))) h
+  broken_at : (q : List Descent) (i : ℕ) → IsAt bs (behind_break (beyond bs q)) → IsAt bs (behind_break (at bs (q, i)))
+  broken_at q i h = subst (λ (c : Control). IsAt bs c) (sym (broken_todos q i (drop i (sequence_at bs q)) (beyond bs q))) h
 
-  broken_beyond : (q : List Descent) → IsAt bs (broken (beyond bs q))
+  broken_beyond : (q : List Descent) → IsAt bs (behind_break (beyond bs q))
   broken_beyond [] = nothing
   broken_beyond (t ∷ q) =
-      broken_behind (q, t.0) (slice_get (sequence bs q) t.0) t.1 (at bs (q, t.0 + 1)) (here (q, t.0 + 1)) (broken_at q (t.0 + 1) (broken_beyond q))
+      broken_behind (q, t.0) (slice_get (sequence_at bs q) t.0) t.1 (at bs (q, t.0 + 1)) (here (q, t.0 + 1)) (broken_at q (t.0 + 1) (broken_beyond q))
 
   -- ---- one move
 
   abbrev Moves : Control → Type 0
   Moves c = (d : Control) → move_on b c ≡ Some d → IsAt bs d
 
-  moves_behind : (q : List Descent) (j : ℕ) (o : Option Stmt) (k : ℕ) → slice_get (sequence bs q) j ≡ o → Moves (at bs (q, j + 1)) → Moves (behind_of (q, j) o k (at bs (q, j + 1)))
+  moves_behind : (q : List Descent) (j : ℕ) (o : Option Stmt) (k : ℕ) → slice_get (sequence_at bs q) j ≡ o → Moves (at bs (q, j + 1)) → Moves (behind_of (q, j) o k (at bs (q, j + 1)))
   moves_behind q j None k e h d m = cc
   moves_behind q j (Some s) k e h d m = by_case s.basic k (ap basic_of e) m
     where
-      by_case : (x : Basic) (k : ℕ) → basic_at (sequence bs q) j ≡ Some x → move_on b (behind (q, j) x k (at bs (q, j + 1))) ≡ Some d → IsAt bs d
+      by_case : (x : Basic) (k : ℕ) → basic_at (sequence_at bs q) j ≡ Some x → move_on b (behind (q, j) x k (at bs (q, j + 1))) ≡ Some d → IsAt bs d
       by_case (Plain a) k f m = h d m
       by_case (Goto l) k f m = h d m
       by_case Break k f m = h d m
@@ -84,19 +84,19 @@ module _ (b : Seq) where
   labelled (Some p) d m = came p d m
 
   -- into the first part of a statement
-  enters : (q : List Descent) (i : ℕ) (x : Basic) (d : Control) → basic_at (sequence bs q) i ≡ Some x → Some (into (q, i) x 0 (at bs (q, i + 1))) ≡ Some d → IsAt bs d
+  enters : (q : List Descent) (i : ℕ) (x : Basic) (d : Control) → basic_at (sequence_at bs q) i ≡ Some x → Some (into_arm (q, i) x 0 (at bs (q, i + 1))) ≡ Some d → IsAt bs d
   enters q i x d h m =
-      record { position = ((i, 0) ∷ q, 0); is = entered bs q i 0 x h ∙ some_is (into (q, i) x 0 (at bs (q, i + 1))) d m }
+      record { position = ((i, 0) ∷ q, 0); is = entered bs q i 0 x h ∙ some_is (into_arm (q, i) x 0 (at bs (q, i + 1))) d m }
 
-  moves_step : (q : List Descent) (i : ℕ) (s : Seq) (d : Control) (t : Bool) → basic_at (sequence bs q) i ≡ Some (DStep s) → (if t then Some (into (q, i) (DStep s) 0 (at bs (q, i + 1))) else None) ≡ Some d → IsAt bs d
+  moves_step : (q : List Descent) (i : ℕ) (s : Seq) (d : Control) (t : Bool) → basic_at (sequence_at bs q) i ≡ Some (DStep s) → (if t then Some (into_arm (q, i) (DStep s) 0 (at bs (q, i + 1))) else None) ≡ Some d → IsAt bs d
   moves_step q i s d true h m = enters q i (DStep s) d h m
   moves_step q i s d false h m = cc
 
-  moves_todo : (q : List Descent) (i : ℕ) (x : Basic) → basic_at (sequence bs q) i ≡ Some x → Moves (Todo (q, i) x ∷ at bs (q, i + 1))
+  moves_todo : (q : List Descent) (i : ℕ) (x : Basic) → basic_at (sequence_at bs q) i ≡ Some x → Moves (Todo (q, i) x ∷ at bs (q, i + 1))
   moves_todo q i (Plain a) h d m = cc
   moves_todo q i (Goto l) h d m = labelled (position_of l.text (all_of b)) d m
   moves_todo q i Break h d m =
-      subst (λ (c : Control). IsAt bs c) (some_is (broken (at bs (q, i + 1))) d m) (broken_at q (i + 1) (broken_beyond q))
+      subst (λ (c : Control). IsAt bs c) (some_is (behind_break (at bs (q, i + 1))) d m) (broken_at q (i + 1) (broken_beyond q))
   moves_todo q i (If' n row) h d m = cc
   moves_todo q i (Do' n row) h d m = cc
   moves_todo q i (Block s) h d m = enters q i (Block s) d h m
@@ -105,16 +105,16 @@ module _ (b : Seq) where
   moves_todo q i (Unless s e) h d m = enters q i (Unless s e) d h m
 
   moves_at : (q : List Descent) (i : ℕ) → Moves (beyond bs q) → Moves (at bs (q, i))
-  moves_at q i h d m = by_case (basic_at (sequence bs q) i) refl
+  moves_at q i h d m = by_case (basic_at (sequence_at bs q) i) refl
     where
-      by_case : (o : Option Basic) → basic_at (sequence bs q) i ≡ o → IsAt bs d
+      by_case : (o : Option Basic) → basic_at (sequence_at bs q) i ≡ o → IsAt bs d
       by_case None e = h d (ap (move_on b) (sym (past bs q i e)) ∙ m)
       by_case (Some x) e = moves_todo q i x e d (ap (move_on b) (sym (stands bs q i x e)) ∙ m)
 
   moves_beyond : (q : List Descent) → Moves (beyond bs q)
   moves_beyond [] d m = cc
   moves_beyond (t ∷ q) d m =
-      moves_behind q t.0 (slice_get (sequence bs q) t.0) t.1 refl (moves_at q (t.0 + 1) (moves_beyond q)) d m
+      moves_behind q t.0 (slice_get (sequence_at bs q) t.0) t.1 refl (moves_at q (t.0 + 1) (moves_beyond q)) d m
 
   moves_from : (c : Control) → IsAt bs c → Moves c
   moves_from c i d m = moves_at i.position.0 i.position.1 (moves_beyond i.position.0) d (ap (move_on b) i.is ∙ m)

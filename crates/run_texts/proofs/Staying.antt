@@ -7,7 +7,7 @@ use Rattle.promela_run.specs.declared.moves.Pick.{Pick}
 use Rattle.promela_run.specs.declared.moves.Move.{Move}
 use Rattle.promela_run.specs.declared.moves.Move.TheVariants.{Death, Alone, Pair}
 use Rattle.promela_run.specs.State.{Stand, State, body_of, levels_in}
-use Rattle.promela_run.specs.World.{offer_text, death_text, pick_text, move_text}
+use Rattle.promela_run.specs.World.{offer_with_heading, death_text, pick_text, move_text}
 use Rattle.run_search.specs.Lifted.{offer_on, offer_at, sort_of}
 use Rattle.run_texts.specs.Staying.{IsWithin}
 
@@ -26,7 +26,7 @@ offer_is s k None = refl
 offer_is s k (Some y) = refl
 
 abbrev pick_by : Program → Pick → Option Stand → List ℕ
-pick_by pr k o = offer_text k.process (sort_of pr o) (offer_by pr k o)
+pick_by pr k o = offer_with_heading k.process (sort_of pr o) (offer_by pr k o)
 
 abbrev death_by : Program → ℕ → Option Stand → List ℕ
 death_by pr p o = death_text p (sort_of pr o)
@@ -34,7 +34,7 @@ death_by pr p o = death_text p (sort_of pr o)
 pick_is : (s : State) (k : Pick) → pick_text s k ≡ pick_by s.program k (slice_get s.stands k.process)
 pick_is s k =
     let o : Option Stand = slice_get s.stands k.process in
-    ap (offer_text k.process (sort_of s.program o)) (offer_is s k o)
+    ap (offer_with_heading k.process (sort_of s.program o)) (offer_is s k o)
 
 module _ (s t : State) (more : List Stand) (same : t.program ≡ s.program) (more_is : t.stands ≡ s.stands ++ more) where
   stand_stays : (p : ℕ) → p < length s.stands → slice_get t.stands p ≡ slice_get s.stands p

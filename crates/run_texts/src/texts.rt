@@ -4,7 +4,7 @@ ghost use Rattle.std.specs.Prelude.{◌≡◌, ◌<◌, ◌++◌, OnOk, OnErr, l
 ghost use Rattle.std.specs.Io.{StartsWith};
 ghost use Rattle.std.specs.Option.{option_copied};
 ghost use Rattle.promela_run.specs.State.{picked as picks};
-ghost use Rattle.promela_run.specs.World.{proctype_of as proctype_in, pick_text, death_text, move_text, origin_of};
+ghost use Rattle.promela_run.specs.World.{sort_of_process as proctype_in, pick_text, death_text, move_text, origin_of};
 ghost use Rattle.run_search.specs.Lifted.{line_in, brace_of};
 ghost use Rattle.run_texts.specs.Staying.{IsWithin};
 

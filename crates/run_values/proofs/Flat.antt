@@ -7,7 +7,7 @@ use Rattle.pml_program.specs.declared.program.Program.{Program}
 use Rattle.promela_process.specs.Store.{Frame}
 use Rattle.pml_store.specs.Writing.{flat, joined}
 use Rattle.promela_run.specs.State.{size, slot_of, cell_of}
-use Rattle.promela_run.specs.Lines.{Owner, line, each_change, variable_lines, owner_lines, process_owner, process_owners, owners, value_lines}
+use Rattle.promela_run.specs.Lines.{Owner, cell_line, each_change, variable_lines, owner_lines, process_owner, process_owners, owners, value_lines}
 use Rattle.run_values.specs.Written.{line_at, IsFrame, AreFrames, IsState, global_owner}
 use Rattle.run_layout.specs.Tables.{slots_of}
 
@@ -123,10 +123,10 @@ beyond f next (s ∷ ss) (c ∷ cs) n i h e =
     let z : n + i ≡ length c + (length (flat cs) + i) = omega (arith, e, length-append c (flat cs)) in
     rw z (slot_after f next s ss (length c) (length (flat cs) + i) m ∙ beyond f next ss cs (length (flat cs)) i r refl)
 
-opened : (p : Program) (o : Owner) (os : List Owner) (i : ℕ) (v : ℤ) → line_at p (o ∷ os) i v ≡ at_slot (λ s c. line p o s c v) (λ c. line_at p os c v) (slot_of o.slots i) (cell_of o.slots i)
+opened : (p : Program) (o : Owner) (os : List Owner) (i : ℕ) (v : ℤ) → line_at p (o ∷ os) i v ≡ at_slot (λ s c. cell_line p o s c v) (λ c. line_at p os c v) (slot_of o.slots i) (cell_of o.slots i)
 opened p o os i v = cases (slot_of o.slots i)
   where
-    cases : (x : Option Slot) → (elim x as (λ _. List ℕ) [ None ↦ line_at p os (cell_of o.slots i) v | Some s ↦ line p o s (cell_of o.slots i) v ]) ≡ at_slot (λ s c. line p o s c v) (λ c. line_at p os c v) x (cell_of o.slots i)
+    cases : (x : Option Slot) → (elim x as (λ _. List ℕ) [ None ↦ line_at p os (cell_of o.slots i) v | Some s ↦ cell_line p o s (cell_of o.slots i) v ]) ≡ at_slot (λ s c. cell_line p o s c v) (λ c. line_at p os c v) x (cell_of o.slots i)
     cases None = refl
     cases (Some s) = refl
 
@@ -136,14 +136,14 @@ owners_flat p (o ∷ os) [] a g d e h = refl
 owners_flat p (o ∷ os) (x ∷ xs) [] g d e h = each_change-short g 0 (joined (x ∷ xs))
 owners_flat p (o ∷ os) (x ∷ xs) (y ∷ ys) g d e h =
     let n : length (flat x) ≡ length (flat y) = length-flat x y (d.0 ∙ sym e.0) in
-    let here : (i : ℕ) (v : ℤ) → i < length (flat x) → g i v ≡ at_slot (λ s c. line p o s c v) (λ c. line_at p os c v) (slot_of o.slots i) (cell_of o.slots i) = λ i v l. (h i v ∙ opened p o os i v) in
+    let here : (i : ℕ) (v : ℤ) → i < length (flat x) → g i v ≡ at_slot (λ s c. cell_line p o s c v) (λ c. line_at p os c v) (slot_of o.slots i) (cell_of o.slots i) = λ i v l. (h i v ∙ opened p o os i v) in
     let after : (i : ℕ) (v : ℤ) → i < length (joined xs) → g (0 + length (flat x) + i) v ≡ g (length (flat x) + (0 + i)) v = λ i v l.
     (let z : 0 + length (flat x) + i ≡ length (flat x) + (0 + i) = omega arith in ap (λ (n : ℕ). g n v) z) in
     let rest : (i : ℕ) (v : ℤ) → g (length (flat x) + i) v ≡ line_at p os i v = λ i v.
-    (h (length (flat x) + i) v ∙ opened p o os (length (flat x) + i) v ∙ beyond (λ (s : Slot) (c : ℕ). line p o s c v) (λ (c : ℕ). line_at p os c v) o.slots x (length (flat x)) i d.0 refl) in
+    (h (length (flat x) + i) v ∙ opened p o os (length (flat x) + i) v ∙ beyond (λ (s : Slot) (c : ℕ). cell_line p o s c v) (λ (c : ℕ). line_at p os c v) o.slots x (length (flat x)) i d.0 refl) in
     each_change-split g 0 (flat x) (flat y) (joined xs) (joined ys) n
-    ∙ ap (λ (l : List ℕ). l ++ each_change g (0 + length (flat x)) (joined xs) (joined ys)) (variables_flat (line p o) (λ (c : ℕ) (v : ℤ). line_at p os c v) o.slots x y g d.0 e.0 here)
-    ∙ ap (λ (l : List ℕ). variable_lines (line p o) o.slots x y ++ l) (each_change-same g (λ (i : ℕ) (v : ℤ). g (length (flat x) + i) v) (0 + length (flat x)) 0 (joined xs) (joined ys) after ∙ owners_flat p os xs ys (λ (i : ℕ) (v : ℤ). g (length (flat x) + i) v) d.1 e.1 rest)
+    ∙ ap (λ (l : List ℕ). l ++ each_change g (0 + length (flat x)) (joined xs) (joined ys)) (variables_flat (cell_line p o) (λ (c : ℕ) (v : ℤ). line_at p os c v) o.slots x y g d.0 e.0 here)
+    ∙ ap (λ (l : List ℕ). variable_lines (cell_line p o) o.slots x y ++ l) (each_change-same g (λ (i : ℕ) (v : ℤ). g (length (flat x) + i) v) (0 + length (flat x)) 0 (joined xs) (joined ys) after ∙ owners_flat p os xs ys (λ (i : ℕ) (v : ℤ). g (length (flat x) + i) v) d.1 e.1 rest)
 
 processes_wanted : (p : Program) (w u : Bool) (i : ℕ) (ks : List ℕ) (fs : List Frame) → AreFrames (process_owners p w i ks) fs → AreFrames (process_owners p u i ks) fs
 processes_wanted p w u i ks [] h = tt
@@ -174,12 +174,12 @@ processes-none p i (k ∷ ks) [] a = refl
 processes-none p i (k ∷ ks) (x ∷ xs) [] = refl
 processes-none p i (k ∷ ks) (x ∷ xs) (y ∷ ys) =
     let o = process_owner false i (slice_get p.proctypes k) in
-    ap (λ (l : List ℕ). l ++ owner_lines p (process_owners p false (i + 1) ks) xs ys) (variables-none (line p o) (slots_of (slice_get p.proctypes k)) x y (λ s c v. refl))
+    ap (λ (l : List ℕ). l ++ owner_lines p (process_owners p false (i + 1) ks) xs ys) (variables-none (cell_line p o) (slots_of (slice_get p.proctypes k)) x y (λ s c v. refl))
     ∙ processes-none p (i + 1) ks xs ys
 
 pub lines-none : (p : Program) (ks : List ℕ) (b a : List Frame) → value_lines p ks b a false false ≡ []
 lines-none p ks [] a = refl
 lines-none p ks (x ∷ xs) [] = refl
 lines-none p ks (x ∷ xs) (y ∷ ys) =
-    ap (λ (l : List ℕ). l ++ owner_lines p (process_owners p false 0 ks) xs ys) (variables-none (line p (global_owner p false)) p.globals x y (λ s c v. refl))
+    ap (λ (l : List ℕ). l ++ owner_lines p (process_owners p false 0 ks) xs ys) (variables-none (cell_line p (global_owner p false)) p.globals x y (λ s c v. refl))
     ∙ processes-none p 0 ks xs ys

@@ -9,7 +9,7 @@ use Rattle.pml_program.specs.declared.program.Slot.{Slot}
 use Rattle.pml_program.specs.declared.program.Program.{Program}
 use Rattle.promela_process.specs.Store.{Cells, Frame}
 use Rattle.run_values.specs.declared.changed.Change.{Change}
-use Rattle.promela_run.specs.Lines.{Owner, line, each_change, variable_lines, owner_lines, value_lines, process_owner, process_owners, owners, heading_of}
+use Rattle.promela_run.specs.Lines.{Owner, cell_line, each_change, variable_lines, owner_lines, value_lines, process_owner, process_owners, owners, heading_of}
 use Rattle.run_values.specs.Changed.{change, variable_changes, frame_changes, changes, process_in, wanted_of, wanted_changes, slot_line, sort_line, value_line}
 use Rattle.run_values.proofs.Flat.{each_change-none}
 use Rattle.run_layout.specs.Tables.{slots_of}
@@ -50,7 +50,7 @@ module _ (p : Program) (ks : List ℕ) (globals locals : Bool) where
   -- of a variable of an owner that is there
   abbrev by_slot : Owner → Option Slot → ℕ → ℤ → List ℕ
   by_slot o None k v = []
-  by_slot o (Some s) k v = line p o s k v
+  by_slot o (Some s) k v = cell_line p o s k v
 
   abbrev by_owner : Option Owner → ℕ → ℕ → ℤ → List ℕ
   by_owner None n k v = []
@@ -67,7 +67,7 @@ module _ (p : Program) (ks : List ℕ) (globals locals : Bool) where
       (cells f n 0 x y (λ i v. []) (λ i v. ap (λ (m : ℕ). lines (change f m i v ∷ [])) z ∙ h 0 i v) ∙ each_change-none (λ i v. []) 0 x y (λ i v. refl))
       ∙ no_variables f (n + 1) xs ys (λ i k v. ap (λ (m : ℕ). lines (change f m k v ∷ [])) (more i) ∙ h (suc i) k v)
 
-  variables : (f n : ℕ) (o : Owner) (ss : List Slot) (x y : Frame) → ((i k : ℕ) (v : ℤ) → lines (change f (n + i) k v ∷ []) ≡ by_slot o (slice_get ss i) k v) → lines (variable_changes f n x y) ≡ variable_lines (line p o) ss x y
+  variables : (f n : ℕ) (o : Owner) (ss : List Slot) (x y : Frame) → ((i k : ℕ) (v : ℤ) → lines (change f (n + i) k v ∷ []) ≡ by_slot o (slice_get ss i) k v) → lines (variable_changes f n x y) ≡ variable_lines (cell_line p o) ss x y
   variables f n o [] x y h = no_variables f n x y (λ i k v. h i k v)
   variables f n o (s ∷ ss) [] y h = refl
   variables f n o (s ∷ ss) (x ∷ xs) [] h = refl
@@ -75,8 +75,8 @@ module _ (p : Program) (ks : List ℕ) (globals locals : Bool) where
       let z : n ≡ n + 0 = omega arith in
       let more : (i : ℕ) → n + 1 + i ≡ n + suc i = (λ i. omega arith) in
       lines-append (each_change (λ i v. change f n i v ∷ []) 0 x y) (variable_changes f (n + 1) xs ys)
-      ∙ ap (λ (l : List ℕ). l ++ lines (variable_changes f (n + 1) xs ys)) (cells f n 0 x y (line p o s) (λ i v. ap (λ (m : ℕ). lines (change f m i v ∷ [])) z ∙ h 0 i v))
-      ∙ ap (λ (l : List ℕ). each_change (line p o s) 0 x y ++ l) (variables f (n + 1) o ss xs ys (λ i k v. ap (λ (m : ℕ). lines (change f m k v ∷ [])) (more i) ∙ h (suc i) k v))
+      ∙ ap (λ (l : List ℕ). l ++ lines (variable_changes f (n + 1) xs ys)) (cells f n 0 x y (cell_line p o s) (λ i v. ap (λ (m : ℕ). lines (change f m i v ∷ [])) z ∙ h 0 i v))
+      ∙ ap (λ (l : List ℕ). each_change (cell_line p o s) 0 x y ++ l) (variables f (n + 1) o ss xs ys (λ i k v. ap (λ (m : ℕ). lines (change f m k v ∷ [])) (more i) ∙ h (suc i) k v))
 
   no_frames : (f : ℕ) (b a : List Frame) → ((i n k : ℕ) (v : ℤ) → lines (change (f + i) n k v ∷ []) ≡ []) → lines (frame_changes f b a) ≡ []
   no_frames f [] a h = refl
@@ -99,7 +99,7 @@ module _ (p : Program) (ks : List ℕ) (globals locals : Bool) where
       lines-append (variable_changes f 0 x y) (frame_changes (f + 1) xs ys)
       ∙ ap (λ (l : List ℕ). l ++ lines (frame_changes (f + 1) xs ys))
       (variables f 0 o o.slots x y (λ i k v. ap (λ (m : ℕ). lines (change m (0 + i) k v ∷ [])) z ∙ ap (λ (m : ℕ). lines (change (f + 0) m k v ∷ [])) (first i) ∙ h 0 i k v))
-      ∙ ap (λ (l : List ℕ). variable_lines (line p o) o.slots x y ++ l) (frames (f + 1) os xs ys (λ i n k v. ap (λ (m : ℕ). lines (change m n k v ∷ [])) (more i) ∙ h (suc i) n k v))
+      ∙ ap (λ (l : List ℕ). variable_lines (cell_line p o) o.slots x y ++ l) (frames (f + 1) os xs ys (λ i n k v. ap (λ (m : ℕ). lines (change m n k v ∷ [])) (more i) ∙ h (suc i) n k v))
 
   -- a line, where it is wanted
   owned : (w : Bool) (heading : List ℕ) (slots : List Slot) (x : Option Slot) (f n k : ℕ) (v : ℤ) → (if w then slot_line p heading x (change f n k v) else []) ≡ by_slot (record { wanted = w; heading = heading; slots = slots }) x k v

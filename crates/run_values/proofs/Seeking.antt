@@ -5,18 +5,18 @@ use Rattle.std.proofs.lemmas.List.{drop_all}
 use Rattle.std.specs.Ordering.{int_eq}
 use Rattle.pml_program.specs.declared.program.Slot.{Slot}
 use Rattle.pml_program.specs.declared.program.Program.{Program}
-use Rattle.promela_run.specs.Lines.{place_line, Owner, line, each_change, heading_of, process_owner, process_owners}
+use Rattle.promela_run.specs.Lines.{place_line, Owner, cell_line, each_change, heading_of, process_owner, process_owners}
 use Rattle.promela_run.specs.State.{slot_of, cell_of}
 use Rattle.run_values.specs.Written.{line_at}
 use Rattle.run_layout.specs.Tables.{slots_of}
 
-pub line-here : (p : Program) (o : Owner) (os : List Owner) (i : ℕ) (v : ℤ) (s : Slot) → Some s ≡ slot_of o.slots i → line_at p (o ∷ os) i v ≡ line p o s (cell_of o.slots i) v
-line-here p o os i v s h = subst (λ (x : Option Slot). (elim x as (λ _. List ℕ) [ None ↦ line_at p os (cell_of o.slots i) v | Some t ↦ line p o t (cell_of o.slots i) v ]) ≡ line p o s (cell_of o.slots i) v) h refl
+pub line-here : (p : Program) (o : Owner) (os : List Owner) (i : ℕ) (v : ℤ) (s : Slot) → Some s ≡ slot_of o.slots i → line_at p (o ∷ os) i v ≡ cell_line p o s (cell_of o.slots i) v
+line-here p o os i v s h = subst (λ (x : Option Slot). (elim x as (λ _. List ℕ) [ None ↦ line_at p os (cell_of o.slots i) v | Some t ↦ cell_line p o t (cell_of o.slots i) v ]) ≡ cell_line p o s (cell_of o.slots i) v) h refl
 
 pub line-after : (p : Program) (o : Owner) (os : List Owner) (i : ℕ) (v : ℤ) → None ≡ slot_of o.slots i → line_at p (o ∷ os) i v ≡ line_at p os (cell_of o.slots i) v
-line-after p o os i v h = subst (λ (x : Option Slot). (elim x as (λ _. List ℕ) [ None ↦ line_at p os (cell_of o.slots i) v | Some t ↦ line p o t (cell_of o.slots i) v ]) ≡ line_at p os (cell_of o.slots i) v) h refl
+line-after p o os i v h = subst (λ (x : Option Slot). (elim x as (λ _. List ℕ) [ None ↦ line_at p os (cell_of o.slots i) v | Some t ↦ cell_line p o t (cell_of o.slots i) v ]) ≡ line_at p os (cell_of o.slots i) v) h refl
 
-unwanted : (p : Program) (o : Owner) (os : List Owner) (i : ℕ) (v : ℤ) (x : Option Slot) → o.wanted ≡ false → line_at p os (cell_of o.slots i) v ≡ [] → (elim x as (λ _. List ℕ) [ None ↦ line_at p os (cell_of o.slots i) v | Some t ↦ line p o t (cell_of o.slots i) v ]) ≡ []
+unwanted : (p : Program) (o : Owner) (os : List Owner) (i : ℕ) (v : ℤ) (x : Option Slot) → o.wanted ≡ false → line_at p os (cell_of o.slots i) v ≡ [] → (elim x as (λ _. List ℕ) [ None ↦ line_at p os (cell_of o.slots i) v | Some t ↦ cell_line p o t (cell_of o.slots i) v ]) ≡ []
 unwanted p o os i v None w h = h
 unwanted p o os i v (Some t) w h = rw w refl
 

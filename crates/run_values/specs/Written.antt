@@ -8,7 +8,7 @@ use Rattle.promela_run.specs.State.{size, slot_of, cell_of}
 use Rattle.promela_process.specs.Store.{Cells, Frame}
 use Rattle.pml_store.specs.Writing.{Contents, joined, before}
 use Rattle.run_values.specs.declared.change.Wanted.{Wanted}
-use Rattle.promela_run.specs.Lines.{place_line, Owner, heading_of, owners, line, value_lines}
+use Rattle.promela_run.specs.Lines.{place_line, Owner, heading_of, owners, cell_line, value_lines}
 
 -- the globals
 abbrev pub global_owner : Program → Bool → Owner
@@ -25,7 +25,7 @@ abbrev pub line_at : Program → List Owner → ℕ → ℤ → List ℕ
 line_at p [] i number = []
 line_at p (o ∷ os) i number = elim (slot_of o.slots i) as (λ _. List ℕ) [
   | None ↦ line_at p os (cell_of o.slots i) number
-  | Some s ↦ line p o s (cell_of o.slots i) number
+  | Some s ↦ cell_line p o s (cell_of o.slots i) number
 ]
 
 -- a cell's line among those of the globals and of processes, where it is wanted

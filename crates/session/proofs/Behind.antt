@@ -9,7 +9,7 @@ use Rattle.promela_session.specs.declared.choice.Answer.TheVariants as answer
 use Rattle.promela_session.specs.Events.{Event, Put, Told, Corrected, Stepped, asks, Part, preceded, followed, prompt, bad_line, list_from}
 use Rattle.profile.specs.declared.TheConstants.{LINE_BYTES, BAD_LINES}
 use Rattle.promela_session.specs.Lines.{Line, line_within, lengthened, read_of, saw_end}
-use Rattle.promela_session.specs.Session.{Rules, Outcome, Goes, Faults, one_line, next_line, one_reply, begins_second, stream_behind, ask, after_line, only, kept, question, choose, place_of, select, stopped, finished, stepped, answered, at_moves, story, step_text}
+use Rattle.promela_session.specs.Session.{Rules, Outcome, Goes, Faults, one_line, next_line, one_reply, begins_second, stream_behind, ask_for_move, after_line, only_this, kept, question, choose, place_of_move, select_move, stopped, finished, stepped, answered, at_moves, story, step_text}
 use Rattle.session.specs.Laws.{is_asked_end, meets_the_end, with_more_left, WhatIsBehindChangesNothing}
 use Rattle.promela_session.specs.declared.form.Stream.{Stream}
 use Rattle.promela_session.specs.declared.form.Stream.TheVariants.{Unread, Known, Over}
@@ -46,7 +46,7 @@ module _ (more : List ℕ) where
   abbrev Grows : {T : Type 0} → (Stream → List ℕ → Part T) → Type 0
   Grows part = (stream : Stream) (rest : List ℕ) → meets_the_end (part stream rest).events ≡ false → part stream (rest ++ more) ≡ with_more_left more (part stream rest)
 
-  only_grows : {T : Type 0} (v : T) → Grows (only v)
+  only_grows : {T : Type 0} (v : T) → Grows (only_this v)
   only_grows v stream rest h = refl
 
   preceded_grows : {T : Type 0} (events : List Event) (part : Stream → List ℕ → Part T) → Grows part → Grows (λ stream left. preceded events (part stream left))
@@ -117,12 +117,12 @@ module _ (more : List ℕ) where
   after_line_grows next grows (Some said) stream rest h = refl
   after_line_grows next grows None stream rest h = preceded_grows (Put Corrected bad_line ∷ []) next grows stream rest h
 
-  ask_grows : (most : ℕ) (place : ℕ → ℕ × ℕ) (tries : ℕ) → Grows (ask most place tries)
-  unfolding ask
-  ask_grows most place zero = followed_grows (one_reply most place) (after_line (only answer.Hundred)) (one_reply_grows most place) (after_line_grows (only answer.Hundred) (only_grows answer.Hundred))
+  ask_grows : (most : ℕ) (place : ℕ → ℕ × ℕ) (tries : ℕ) → Grows (ask_for_move most place tries)
+  unfolding ask_for_move
+  ask_grows most place zero = followed_grows (one_reply most place) (after_line (only_this answer.Hundred)) (one_reply_grows most place) (after_line_grows (only_this answer.Hundred) (only_grows answer.Hundred))
   ask_grows most place (suc tries) =
-      let again = λ (o : Stream) (left : List ℕ). preceded (Put Corrected (prompt most) ∷ []) (ask most place tries o left) in
-      followed_grows (one_reply most place) (after_line again) (one_reply_grows most place) (after_line_grows again (preceded_grows (Put Corrected (prompt most) ∷ []) (ask most place tries) (ask_grows most place tries)))
+      let again = λ (o : Stream) (left : List ℕ). preceded (Put Corrected (prompt most) ∷ []) (ask_for_move most place tries o left) in
+      followed_grows (one_reply most place) (after_line again) (one_reply_grows most place) (after_line_grows again (preceded_grows (Put Corrected (prompt most) ∷ []) (ask_for_move most place tries) (ask_grows most place tries)))
 
   kept_grows : (notes : Version) (place : ℕ → ℕ × ℕ) (said : Answer) → Grows (kept notes place said)
   kept_grows notes place (answer.Pick n) stream rest h = refl
@@ -139,11 +139,11 @@ module _ (more : List ℕ) where
       (preceded_grows (Put Told (prompt (length moves)) ∷ []) asked (followed_grows (question (length moves) place) (kept notes place) (ask_grows (length moves) place (BAD_LINES - 1)) (kept_grows notes place)))
 
   module _ {S M : Type 0} (notes : Version) (rules : Rules S M) (options : Options) where
-    select_grows : (s : S) (moves : List M) → Grows (select notes rules s moves)
-    unfolding select
+    select_grows : (s : S) (moves : List M) → Grows (select_move notes rules s moves)
+    unfolding select_move
     select_grows s [] = only_grows (answer.Pick 1)
     select_grows s (m ∷ []) = only_grows (answer.Pick 1)
-    select_grows s (m ∷ n ∷ ms) = choose_grows notes (rules.text s) (place_of rules s (m ∷ n ∷ ms)) (m ∷ n ∷ ms)
+    select_grows s (m ∷ n ∷ ms) = choose_grows notes (rules.text s) (place_of_move rules s (m ∷ n ∷ ms)) (m ∷ n ∷ ms)
 
     -- ---- the session
 
@@ -178,8 +178,8 @@ module _ (more : List ℕ) where
     unfolding story
     story_grows zero s steps = at_grows s steps (λ ms m. stopped cause.StepLimit steps) (λ ms m stream rest h. refl) (rules.moves s)
     story_grows (suc fuel) s steps = at_grows s steps
-        (λ ms m stream rest. followed (select notes rules s ms stream rest) (answered rules options s ms m steps (λ t o r. story notes rules options fuel t (steps + 1) o r)))
-        (λ ms m. followed_grows (select notes rules s ms) (answered rules options s ms m steps (λ t o r. story notes rules options fuel t (steps + 1) o r)) (select_grows s ms)
+        (λ ms m stream rest. followed (select_move notes rules s ms stream rest) (answered rules options s ms m steps (λ t o r. story notes rules options fuel t (steps + 1) o r)))
+        (λ ms m. followed_grows (select_move notes rules s ms) (answered rules options s ms m steps (λ t o r. story notes rules options fuel t (steps + 1) o r)) (select_grows s ms)
         (answered_grows s ms m steps (λ t o r. story notes rules options fuel t (steps + 1) o r) (λ t. story_grows fuel t (steps + 1)))) (rules.moves s)
 
 pub what_is_behind_changes_nothing : {S M : Type 0} (rules : Rules S M) → WhatIsBehindChangesNothing rules

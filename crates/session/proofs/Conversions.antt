@@ -20,7 +20,7 @@ use Rattle.promela_session.specs.declared.form.Version.TheVariants.{First, Secon
 use Rattle.session.specs.Converting.{fits_line, told_event, told_events, noting, quiet, told, failure_converting}
 use Rattle.promela_session.specs.Events.{Event, Put, Told, Asked, AskedEnd, Recorded, Stepped, is_ask, output, front, recorded, steps_in, step_of, Part, preceded, followed, header_line, list_from, prompt}
 use Rattle.profile.specs.declared.TheConstants.{BAD_LINES, LINE_BYTES}
-use Rattle.promela_session.specs.Session.{Rules, Outcome, Goes, Faults, kept, question, choose, place_of, select, stopped, stepped, answered, at_moves, story, transcript, transcript_noting, step_text, end_of}
+use Rattle.promela_session.specs.Session.{Rules, Outcome, Goes, Faults, kept, question, choose, place_of_move, select_move, stopped, stepped, answered, at_moves, story, transcript, transcript_noting, step_text, end_of}
 use Rattle.promela_session.specs.Devices.{is_readable, AreReadable, MovedBy, Begins, Does, Breaks, CountsBroken, Ends, IsBrokenOff, IsConvertedBy, converted_event, converted_events, converted}
 use Rattle.session.specs.Writes.{Runs}
 use Rattle.session.proofs.Parts.{records, record_breaks, Leads-does, Leads-breaks}
@@ -78,11 +78,11 @@ choose_converts text place moves stream rest =
     behind pieces pieces refl (then asked asked (kept First place) (kept Second place) (question_converts (length moves) place stream rest) (kept_converts place))
 
 module _ {S M : Type 0} (rules : Rules S M) (options others : Options) where
-  select_converts : (s : S) (moves : List M) (stream : Stream) (rest : List ℕ) → IsConversion (select First rules s moves stream rest) (select Second rules s moves stream rest)
-  unfolding select
+  select_converts : (s : S) (moves : List M) (stream : Stream) (rest : List ℕ) → IsConversion (select_move First rules s moves stream rest) (select_move Second rules s moves stream rest)
+  unfolding select_move
   select_converts s [] stream rest = record { ends = refl; does = refl; knows = refl; leaves = refl }
   select_converts s (m ∷ []) stream rest = record { ends = refl; does = refl; knows = refl; leaves = refl }
-  select_converts s (m ∷ n ∷ ms) stream rest = choose_converts (rules.text s) (place_of rules s (m ∷ n ∷ ms)) (m ∷ n ∷ ms) stream rest
+  select_converts s (m ∷ n ∷ ms) stream rest = choose_converts (rules.text s) (place_of_move rules s (m ∷ n ∷ ms)) (m ∷ n ∷ ms) stream rest
 
   stepped_converts : (s : S) (m : M) (steps : ℕ) (later other : S → Part End) (stream : Stream) (left : List ℕ) → ((t : S) → IsConversion (later t) (other t)) → (o : Outcome S)
       → IsConversion (stepped rules options s m steps later stream left o) (stepped rules others s m steps other stream left o)
@@ -113,9 +113,9 @@ module _ {S M : Type 0} (rules : Rules S M) (options others : Options) where
   story_converts zero s steps stream rest =
       at_converts s steps stream rest (λ ms m. stopped cause.StepLimit steps stream rest) (λ ms m. stopped cause.StepLimit steps stream rest) (λ ms m. record { ends = refl; does = refl; knows = refl; leaves = refl }) (rules.moves s)
   story_converts (suc fuel) s steps stream rest = at_converts s steps stream rest
-      (λ ms m. followed (select First rules s ms stream rest) (answered rules options s ms m steps (λ t o r. story First rules options fuel t (steps + 1) o r)))
-      (λ ms m. followed (select Second rules s ms stream rest) (answered rules others s ms m steps (λ t o r. story Second rules others fuel t (steps + 1) o r)))
-      (λ ms m. then (select First rules s ms stream rest) (select Second rules s ms stream rest) _ _ (select_converts s ms stream rest) (answered_converts s ms m steps _ _ (λ t o r. story_converts fuel t (steps + 1) o r))) (rules.moves s)
+      (λ ms m. followed (select_move First rules s ms stream rest) (answered rules options s ms m steps (λ t o r. story First rules options fuel t (steps + 1) o r)))
+      (λ ms m. followed (select_move Second rules s ms stream rest) (answered rules others s ms m steps (λ t o r. story Second rules others fuel t (steps + 1) o r)))
+      (λ ms m. then (select_move First rules s ms stream rest) (select_move Second rules s ms stream rest) _ _ (select_converts s ms stream rest) (answered_converts s ms m steps _ _ (λ t o r. story_converts fuel t (steps + 1) o r))) (rules.moves s)
 
 -- ---- the devices of a conversion
 

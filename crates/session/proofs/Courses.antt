@@ -8,7 +8,7 @@ use Rattle.promela_session.specs.declared.ends.Cause.TheVariants as cause
 use Rattle.promela_session.specs.declared.choice.Answer.{Answer}
 use Rattle.promela_session.specs.declared.choice.Answer.TheVariants as answer
 use Rattle.promela_session.specs.Events.{Event, Put, Told, Stepped, Part, preceded, followed}
-use Rattle.promela_session.specs.Session.{Rules, Outcome, Goes, Faults, select, stopped, stepped, answered, at_moves, story, transcript, step_text}
+use Rattle.promela_session.specs.Session.{Rules, Outcome, Goes, Faults, select_move, stopped, stepped, answered, at_moves, story, transcript, step_text}
 use Rattle.session.specs.Laws.{is_no_piece, beside_output, IsSameCourse, ShowingChangesNothing}
 use Rattle.promela_session.specs.declared.form.Stream.{Stream}
 use Rattle.promela_session.specs.declared.form.Stream.TheVariants.{Unread}
@@ -60,9 +60,9 @@ module _ {S M : Type 0} (notes : Version) (rules : Rules S M) (options others : 
   story_course zero s steps stream rest =
       at_course s steps stream rest (λ ms m. stopped cause.StepLimit steps stream rest) (λ ms m. stopped cause.StepLimit steps stream rest) (λ ms m. same _) (rules.moves s)
   story_course (suc fuel) s steps stream rest = at_course s steps stream rest
-      (λ ms m. followed (select notes rules s ms stream rest) (answered rules options s ms m steps (λ t o r. story notes rules options fuel t (steps + 1) o r)))
-      (λ ms m. followed (select notes rules s ms stream rest) (answered rules others s ms m steps (λ t o r. story notes rules others fuel t (steps + 1) o r)))
-      (λ ms m. followed_course (select notes rules s ms stream rest) _ _ (answered_course s ms m steps _ _ (λ t o r. story_course fuel t (steps + 1) o r))) (rules.moves s)
+      (λ ms m. followed (select_move notes rules s ms stream rest) (answered rules options s ms m steps (λ t o r. story notes rules options fuel t (steps + 1) o r)))
+      (λ ms m. followed (select_move notes rules s ms stream rest) (answered rules others s ms m steps (λ t o r. story notes rules others fuel t (steps + 1) o r)))
+      (λ ms m. followed_course (select_move notes rules s ms stream rest) _ _ (answered_course s ms m steps _ _ (λ t o r. story_course fuel t (steps + 1) o r))) (rules.moves s)
 
 pub showing_changes_nothing : {S M : Type 0} (rules : Rules S M) → ShowingChangesNothing rules
 showing_changes_nothing rules s choices options others is =

@@ -12,7 +12,7 @@ use Rattle.promela_session.specs.Events.{Event, Put, Told, AskedEnd, Recorded, S
 use Rattle.profile.specs.declared.TheConstants.{LINE_BYTES, BAD_LINES}
 use Rattle.promela_session.specs.Lines.{is_header}
 use Rattle.session.specs.Answers.{IsPickUpTo}
-use Rattle.promela_session.specs.Session.{Rules, Outcome, Goes, Faults, one_line, next_line, one_reply, ask, only, kept, choose, place_of, select, stopped, finished, stepped, answered, story, transcript, refused, end_of, step_text}
+use Rattle.promela_session.specs.Session.{Rules, Outcome, Goes, Faults, one_line, next_line, one_reply, ask_for_move, only_this, kept, choose, place_of_move, select_move, stopped, finished, stepped, answered, story, transcript, refused, end_of, step_text}
 use Rattle.promela_session.specs.Devices.{is_cut_short, IsSameBeginning, CanBeReplayed}
 use Rattle.session.proofs.LineReading.{line_end}
 use Rattle.session.proofs.Parts.{front-append, recorded-append, front-asks, recorded-asks}
@@ -70,8 +70,8 @@ ended_reply most place Unread unended = rw (line_end LINE_BYTES) (ended_line Fir
 ended_reply most place (Known version) unended = ended_line version most place
 ended_reply most place Over unended = absurd (unended refl)
 
-pub ended_ask : (most : ℕ) (place : ℕ → ℕ × ℕ) (tries : ℕ) (stream : Stream) → (stream ≡ Over → ⊥) → ask most place tries stream [] ≡ record { events = AskedEnd ∷ []; value = answer.Ended; stream = Over; left = [] }
-unfolding ask
+pub ended_ask : (most : ℕ) (place : ℕ → ℕ × ℕ) (tries : ℕ) (stream : Stream) → (stream ≡ Over → ⊥) → ask_for_move most place tries stream [] ≡ record { events = AskedEnd ∷ []; value = answer.Ended; stream = Over; left = [] }
+unfolding ask_for_move
 ended_ask most place zero stream unended = rw (ended_reply most place stream unended) refl
 ended_ask most place (suc tries) stream unended = rw (ended_reply most place stream unended) refl
 
@@ -87,7 +87,7 @@ record StopsAt (steps : ℕ) (next : Answer → Stream → List ℕ → Part End
 
 module _ {M : Type 0} (text : M → List ℕ) (place : ℕ → ℕ × ℕ) (moves : List M) (next : Answer → Stream → List ℕ → Part End) (steps : ℕ) (stops : StopsAt steps next) where
   -- no number was picked
-  unpicked : (asked : List Event) (said : Answer) (stream : Stream) (left : List ℕ) → Silent asked → ((k : ℕ) → said ≡ answer.Pick k → ⊥) → (kept First place said stream left ≡ only said stream left)
+  unpicked : (asked : List Event) (said : Answer) (stream : Stream) (left : List ℕ) → Silent asked → ((k : ℕ) → said ≡ answer.Pick k → ⊥) → (kept First place said stream left ≡ only_this said stream left)
       → (first : Stream) → IsPlain first → IsSameBeginning (chosen text place moves next asked said stream left) (followed (choose First text place moves first (recorded (chosen text place moves next asked said stream left).events)) next)
   unpicked asked said stream left silent other is first plain =
       let c = stops.count said other stream left in
@@ -133,13 +133,13 @@ module _ {S M : Type 0} (rules : Rules S M) (options : Options) where
       by_answer answer.Misfit other stream left = (refl, refl)
 
   select_begins : (s : S) (moves : List M) → 0 < length moves → (first : M) (steps : ℕ) (later : S → Stream → List ℕ → Part End) → StepsBeginAgain rules options s moves later
-      → BeginsAgain (λ stream rest. followed (select First rules s moves stream rest) (answered rules options s moves first steps later))
-  unfolding select
+      → BeginsAgain (λ stream rest. followed (select_move First rules s moves stream rest) (answered rules options s moves first steps later))
+  unfolding select_move
   select_begins s [] some first steps later ih stream choices cut = absurd (omega arith)
   select_begins s (m ∷ []) some first steps later ih stream choices cut = answered_begins rules options s (m ∷ []) first steps later ih 1 (omega arith) (omega arith) stream choices cut
   select_begins s (m ∷ k ∷ ms) some first steps later ih stream choices cut =
-      let place = place_of rules s (m ∷ k ∷ ms) in
-      let asked = ask (length (m ∷ k ∷ ms)) place (BAD_LINES - 1) stream choices in
+      let place = place_of_move rules s (m ∷ k ∷ ms) in
+      let asked = ask_for_move (length (m ∷ k ∷ ms)) place (BAD_LINES - 1) stream choices in
       chosen_begins (rules.text s) place (m ∷ k ∷ ms) (answered rules options s (m ∷ k ∷ ms) first steps later) steps (answered_stops s (m ∷ k ∷ ms) first steps later)
       (answered_begins rules options s (m ∷ k ∷ ms) first steps later ih) asked.events asked.value asked.stream asked.left (ask_silent (length (m ∷ k ∷ ms)) place (BAD_LINES - 1) stream choices) (ask_range (length (m ∷ k ∷ ms)) place (BAD_LINES - 1) stream choices)
       (ask_short (length (m ∷ k ∷ ms)) place (BAD_LINES - 1) stream choices) cut

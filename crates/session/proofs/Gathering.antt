@@ -14,7 +14,7 @@ use Rattle.session.specs.Writes.{Leads, Continues, story_after}
 use Rattle.session.specs.declared.course.Course.{Course}
 use Rattle.session.specs.Gathered.{told_steps, begins_from, later, AddsText, CutsTexts, AreGathered, behind, Waits, BreaksBare, Halts, GoesFurther, Advances, TurnsOn}
 use Rattle.promela_session.specs.declared.ends.Options.{Options}
-use Rattle.promela_session.specs.Session.{Rules, Goes, stepped, step_text, story, select, answered}
+use Rattle.promela_session.specs.Session.{Rules, Goes, stepped, step_text, story, select_move, answered}
 use Rattle.session.proofs.Turns.{step_part, step_leads}
 use Rattle.session.proofs.Moving.{Moved-nil, Moved-still}
 use Rattle.session.proofs.Parts.{Leads-nil, preceded-preceded, Leads-same, Leads-trans, Leads-does, Leads-breaks, output-append}
@@ -349,7 +349,7 @@ module _ {S M : Type 0} (notes : Version) (rules : Rules S M) (options : Options
 
   one_story : (m : M) (fuel : ℕ) → rules.moves at ≡ m ∷ [] → (left : List ℕ)
       → story notes rules options (suc fuel) at steps stream left ≡ stepped rules options at m steps (λ t. story notes rules options fuel t (steps + 1) stream left) stream left (rules.step at m)
-  unfolding story select answered
+  unfolding story select_move answered
   one_story m fuel is left = rw is refl
 
   pub one_move : (m : M) (moves : List M) → moves ≡ rules.moves at → length moves ≡ 1 → m ≡ get_or moves 0 m → steps < options.limit

@@ -13,7 +13,7 @@ use Rattle.promela_session.specs.Events.{Event, Purpose, Put, Recorded, asks, ou
 use Rattle.profile.specs.declared.TheConstants.{LINE_BYTES}
 use Rattle.promela_session.specs.Devices.{is_readable, AreReadable, MovedBy, Begins, Does, Breaks}
 use Rattle.session.specs.Writes.{Leads}
-use Rattle.promela_session.specs.Session.{only}
+use Rattle.promela_session.specs.Session.{only_this}
 use Rattle.session.specs.Reads.{AsksPart, AsksBroken}
 use Rattle.session.proofs.Moving.{Moved-nil, Moved-trans, Moved-piece, Moved-line}
 use Rattle.promela_session.specs.declared.form.Stream.{Stream}
@@ -183,7 +183,7 @@ module _ {T : Type 0} where
     }
 
     -- nothing is done, and only this comes of it
-    pub only_moves : (value : T) (stream : Stream) → Moved a b [] [] [] → Does a b n n (only value stream) value stream
+    pub only_moves : (value : T) (stream : Stream) → Moved a b [] [] [] → Does a b n n (only_this value stream) value stream
     only_moves value stream none = record { done = []; moved = MovedBy-nil none; is = λ left now. refl }
 
 module _ {T U : Type 0} {a b : Holdings} {n n' : ℕ} {part : List ℕ → Part T} where
@@ -193,5 +193,5 @@ module _ {T U : Type 0} {a b : Holdings} {n n' : ℕ} {part : List ℕ → Part 
   pub Breaks-then : {e : Broken} (next : T → Stream → List ℕ → Part U) → Breaks a b n n' e part → Breaks a b n n' e (λ rest. followed (part rest) next)
   Breaks-then {e = e} next broken = record { done = broken.done; moved = broken.moved; begins = λ left now. Begins-more e broken.done _ _ (broken.begins left now) }
 
-pub only_does : {T : Type 0} {a : Holdings} {n : ℕ} (value : T) (stream : Stream) → Does a a n n (only value stream) value stream
+pub only_does : {T : Type 0} {a : Holdings} {n : ℕ} (value : T) (stream : Stream) → Does a a n n (only_this value stream) value stream
 only_does value stream = only_moves value stream Moved-nil

@@ -11,8 +11,9 @@ use Rattle.promela_session.specs.declared.form.Stream.TheVariants.{Unread, Known
 use Rattle.promela_session.specs.declared.form.Version.TheVariants.{Second}
 use Rattle.promela_session.specs.Events.{asks, preceded, all_digits, placed_line, header, header_line}
 use Rattle.profile.specs.declared.TheConstants.{LINE_BYTES}
-use Rattle.promela_session.specs.Lines.{line_within, lengthened, is_blank, is_digit, is_gap, end_trimmed, trimmed, is_quit, is_header, first_word, behind_word, number_up_to, writes, placed_answer, placed_reply, without_front}
-use Rattle.promela_session.specs.Session.{one_line, next_line, one_reply, ask}
+use Rattle.profile.specs.Characters.{is_digit}
+use Rattle.promela_session.specs.Lines.{line_within, lengthened, is_line_blank, is_gap, end_trimmed, trimmed, is_quit, is_header, first_word, behind_word, number_up_to, writes, placed_answer, placed_reply, without_front}
+use Rattle.promela_session.specs.Session.{one_line, next_line, one_reply, ask_for_move}
 use Rattle.session.proofs.LineReading.{line_feed, line_byte}
 use Rattle.session.proofs.Written.{all_are_digits, number_is, by_digits}
 
@@ -25,7 +26,7 @@ both false b holds = absurd (true≢false (sym holds))
 abbrev AreDigits : List ℕ → Type 0
 AreDigits word = list_all is_digit word ≡ true
 
-digit_not_blank : (b : ℕ) → is_digit b ≡ true → is_blank b ≡ false
+digit_not_blank : (b : ℕ) → is_digit b ≡ true → is_line_blank b ≡ false
 digit_not_blank b digit = grind (arith, nat_tests)
 
 digit_not_gap : (b : ℕ) → is_digit b ≡ true → is_gap b ≡ false
@@ -58,14 +59,14 @@ not_quit [] rest some = absurd (omega arith)
 not_quit (d ∷ []) rest some = refl
 not_quit (d ∷ e ∷ ds) rest some = refl
 
-front_kept : (ds rest : List ℕ) → AreDigits ds → 0 < length ds → without_front is_blank (ds ++ rest) ≡ ds ++ rest
+front_kept : (ds rest : List ℕ) → AreDigits ds → 0 < length ds → without_front is_line_blank (ds ++ rest) ≡ ds ++ rest
 front_kept [] rest digits some = absurd (omega arith)
 front_kept (d ∷ ds) rest digits some = rw (digit_not_blank d (both (is_digit d) (list_all is_digit ds) digits).0) refl
 
-not_blank : (xs ds : List ℕ) → AreDigits ds → 0 < length ds → list_all is_blank (xs ++ ds) ≡ false
+not_blank : (xs ds : List ℕ) → AreDigits ds → 0 < length ds → list_all is_line_blank (xs ++ ds) ≡ false
 not_blank [] [] digits some = absurd (omega arith)
 not_blank [] (d ∷ ds) digits some = rw (digit_not_blank d (both (is_digit d) (list_all is_digit ds) digits).0) refl
-not_blank (x ∷ xs) ds digits some = rw (not_blank xs ds digits some) (by (is_blank x))
+not_blank (x ∷ xs) ds digits some = rw (not_blank xs ds digits some) (by (is_line_blank x))
   where
     by : (t : Bool) → (t && false) ≡ false
     by true = refl
@@ -159,8 +160,8 @@ module _ (most : ℕ) (place : ℕ → ℕ × ℕ) (n : ℕ) (more : List ℕ) (
   unfolding one_line
   placed_one_line = rw (the_line, placed_said most place n some within, placed_is n (place n)) refl
 
-  pub placed_asked : (tries : ℕ) → ask most place tries (Known Second) (placed_line n (place n) ++ more) ≡ record { events = asks (placed_line n (place n)) false; value = answer.Pick n; stream = Known Second; left = more }
-  unfolding ask one_reply next_line
+  pub placed_asked : (tries : ℕ) → ask_for_move most place tries (Known Second) (placed_line n (place n) ++ more) ≡ record { events = asks (placed_line n (place n)) false; value = answer.Pick n; stream = Known Second; left = more }
+  unfolding ask_for_move one_reply next_line
   placed_asked zero = rw placed_one_line (rw append-nil refl)
   placed_asked (suc tries) = rw placed_one_line (rw append-nil refl)
 
@@ -172,7 +173,7 @@ module _ (most : ℕ) (place : ℕ → ℕ × ℕ) (rest : List ℕ) where
   unfolding one_reply next_line is_header
   header_reply = rw (header_read rest) refl
 
-  pub header_asked : (tries : ℕ) → ask most place tries Unread (header_line ++ rest) ≡ preceded (asks header_line false) (ask most place tries (Known Second) rest)
-  unfolding ask
+  pub header_asked : (tries : ℕ) → ask_for_move most place tries Unread (header_line ++ rest) ≡ preceded (asks header_line false) (ask_for_move most place tries (Known Second) rest)
+  unfolding ask_for_move
   header_asked zero = rw header_reply refl
   header_asked (suc tries) = rw header_reply refl

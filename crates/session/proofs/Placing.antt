@@ -22,7 +22,7 @@ use Rattle.promela_session.specs.Events.{Event, Put, Told, Asked, AskedEnd, Reco
 use Rattle.profile.specs.declared.TheConstants.{LINE_BYTES, BAD_LINES}
 use Rattle.promela_session.specs.Lines.{line_within, read_of, saw_end}
 use Rattle.session.specs.Answers.{IsPickUpTo}
-use Rattle.promela_session.specs.Session.{Rules, Outcome, Goes, Faults, one_line, next_line, one_reply, begins_second, stream_behind, ask, only, kept, choose, place_of, select, stopped, finished, stepped, answered, story, transcript, step_text, refused}
+use Rattle.promela_session.specs.Session.{Rules, Outcome, Goes, Faults, one_line, next_line, one_reply, begins_second, stream_behind, ask_for_move, only_this, kept, choose, place_of_move, select_move, stopped, finished, stepped, answered, story, transcript, step_text, refused}
 use Rattle.session.specs.Reads.{line_asks}
 use Rattle.session.proofs.LineReading.{AsksFirst, asks_first}
 use Rattle.session.proofs.Parts.{front-append, output-append, recorded-append, front-asks}
@@ -109,8 +109,8 @@ one_any most place Unread rest unended = by (begins_second (line_within (LINE_BY
 one_any most place (Known version) rest unended = next_any most place (Known version) rest unended
 one_any most place Over rest unended = absurd (unended refl)
 
-ask_any : (most : ℕ) (place : ℕ → ℕ × ℕ) (tries : ℕ) (stream : Stream) (rest : List ℕ) → IsOpen stream → list_any is_ask (ask most place tries stream rest).events ≡ true
-unfolding ask
+ask_any : (most : ℕ) (place : ℕ → ℕ × ℕ) (tries : ℕ) (stream : Stream) (rest : List ℕ) → IsOpen stream → list_any is_ask (ask_for_move most place tries stream rest).events ≡ true
+unfolding ask_for_move
 ask_any most place zero stream rest unended = any_front (one_reply most place stream rest).events _ (one_any most place stream rest unended)
 ask_any most place (suc tries) stream rest unended = any_front (one_reply most place stream rest).events _ (one_any most place stream rest unended)
 
@@ -185,11 +185,11 @@ module _ {M : Type 0} (text : M → List ℕ) (place : ℕ → ℕ × ℕ) (move
 
   -- what follows the pieces
   abbrev behind : List ℕ → Part End
-  behind rest = followed (followed (ask (length moves) place (BAD_LINES - 1) (Known Second) rest) (kept First place)) next
+  behind rest = followed (followed (ask_for_move (length moves) place (BAD_LINES - 1) (Known Second) rest) (kept First place)) next
 
   header_asking : (rest : List ℕ) → asking Unread (header_line ++ rest) ≡ preceded pieces (preceded (asks header_line false) (behind rest))
   header_asking rest =
-      let asked = ask (length moves) place (BAD_LINES - 1) (Known Second) rest in
+      let asked = ask_for_move (length moves) place (BAD_LINES - 1) (Known Second) rest in
       ap (λ p. preceded pieces (followed (followed p (kept First place)) next)) (header_asked (length moves) place rest (BAD_LINES - 1))
       ∙ (ap (λ p. preceded pieces (followed p next)) (followed_preceded (asks header_line false) asked (kept First place))
       ∙ ap (preceded pieces) (followed_preceded (asks header_line false) (followed asked (kept First place)) next))
@@ -225,7 +225,7 @@ module _ {M : Type 0} (text : M → List ℕ) (place : ℕ → ℕ × ℕ) (move
   placed_again n more some within fits = rw (placed_asked (length moves) place n more some within fits (BAD_LINES - 1)) refl
 
   -- no number was picked
-  unpicked : (asked : List Event) (said : Answer) (stream : Stream) (left : List ℕ) → Silent asked → ((k : ℕ) → said ≡ answer.Pick k → ⊥) → (kept First place said stream left ≡ only said stream left)
+  unpicked : (asked : List Event) (said : Answer) (stream : Stream) (left : List ℕ) → Silent asked → ((k : ℕ) → said ≡ answer.Pick k → ⊥) → (kept First place said stream left ≡ only_this said stream left)
       → (first : Stream) → IsPlain first → let run = chosen text place moves next asked said stream left in IsSameReading (asking first (recorded run.events)) (asking (Known Second) (placed_lines run.events)) (placed_lines run.events)
   unpicked asked said stream left silent other is first plain =
       let none = stops.none said other stream left in
@@ -289,28 +289,28 @@ module _ {S M : Type 0} (rules : Rules S M) (options : Options) where
       by_answer answer.Misfit other stream left = (refl, refl)
 
   abbrev selected : S → List M → M → ℕ → (S → Stream → List ℕ → Part End) → Stream → List ℕ → Part End
-  selected s moves start steps later stream rest = followed (select First rules s moves stream rest) (answered rules options s moves start steps later)
+  selected s moves start steps later stream rest = followed (select_move First rules s moves stream rest) (answered rules options s moves start steps later)
 
   select_placed : (s : S) (moves : List M) → 0 < length moves → (start : M) (steps : ℕ) (later : S → Stream → List ℕ → Part End) → ((t : S) → IsPlaced (later t)) → IsPlaced (selected s moves start steps later)
-  unfolding select
+  unfolding select_move
   select_placed s [] some start steps later ih stream choices fit first plain = absurd (omega arith)
   select_placed s (m ∷ []) some start steps later ih stream choices fit first plain = answered_placed rules options s (m ∷ []) start steps later ih 1 stream choices fit first plain
   select_placed s (m ∷ k ∷ ms) some start steps later ih stream choices fit first plain =
-      let place = place_of rules s (m ∷ k ∷ ms) in
-      let asked = ask (length (m ∷ k ∷ ms)) place (BAD_LINES - 1) stream choices in
+      let place = place_of_move rules s (m ∷ k ∷ ms) in
+      let asked = ask_for_move (length (m ∷ k ∷ ms)) place (BAD_LINES - 1) stream choices in
       chosen_placed (rules.text s) place (m ∷ k ∷ ms) (answered rules options s (m ∷ k ∷ ms) start steps later) (answered_stops s (m ∷ k ∷ ms) start steps later)
       (answered_placed rules options s (m ∷ k ∷ ms) start steps later ih) asked.events asked.value asked.stream asked.left (ask_silent (length (m ∷ k ∷ ms)) place (BAD_LINES - 1) stream choices)
       (ask_range (length (m ∷ k ∷ ms)) place (BAD_LINES - 1) stream choices) (ask_short (length (m ∷ k ∷ ms)) place (BAD_LINES - 1) stream choices) fit first plain
 
   select_headed : (s : S) (moves : List M) → 0 < length moves → (start : M) (steps : ℕ) (later : S → Stream → List ℕ → Part End) → ((t : S) → IsPlaced (later t)) → ((t : S) → IsHeaded (later t)) → IsHeaded (selected s moves start steps later)
-  unfolding select
+  unfolding select_move
   select_headed s [] some start steps later ih ih2 stream choices unended fit first plain = absurd (omega arith)
   select_headed s (m ∷ []) some start steps later ih ih2 stream choices unended fit first plain = answered_headed rules options s (m ∷ []) start steps later ih2 1 stream choices unended fit first plain
   select_headed s (m ∷ k ∷ ms) some start steps later ih ih2 stream choices unended fit first plain =
       let moves = m ∷ k ∷ ms in
-      let place = place_of rules s moves in
+      let place = place_of_move rules s moves in
       let next = answered rules options s moves start steps later in
-      let asked = ask (length moves) place (BAD_LINES - 1) stream choices in
+      let asked = ask_for_move (length moves) place (BAD_LINES - 1) stream choices in
       let run = chosen (rules.text s) place moves next asked.events asked.value asked.stream asked.left in
       let any : list_any is_ask run.events ≡ true = chosen_any (rules.text s) place moves next (answered_stops s moves start steps later) asked.events asked.value asked.stream asked.left (ask_any (length moves) place (BAD_LINES - 1) stream choices unended) in
       let is : headed run.events ≡ second run.events = rw any refl in

@@ -10,8 +10,9 @@ use Rattle.promela_session.specs.declared.form.Stream.{Stream}
 use Rattle.promela_session.specs.declared.form.Stream.TheVariants.{Unread, Known, Over}
 use Rattle.promela_session.specs.declared.form.Version.TheVariants.{First}
 use Rattle.profile.specs.declared.TheConstants.{LINE_BYTES}
-use Rattle.promela_session.specs.Lines.{line_within, lengthened, is_blank, is_digit, end_trimmed, trimmed, number_up_to, is_quit, is_header, reply_of, without_front}
-use Rattle.promela_session.specs.Session.{one_line, next_line, one_reply, ask}
+use Rattle.profile.specs.Characters.{is_digit}
+use Rattle.promela_session.specs.Lines.{line_within, lengthened, is_line_blank, end_trimmed, trimmed, number_up_to, is_quit, is_header, reply_of, without_front}
+use Rattle.promela_session.specs.Session.{one_line, next_line, one_reply, ask_for_move}
 use Rattle.std.specs.Prelude.{⊤, option_map}
 use Rattle.std.specs.Str.{bytes_eq}
 use Rattle.session.proofs.LineReading.{line_feed, line_byte}
@@ -26,7 +27,7 @@ both false b holds = absurd (true≢false (sym holds))
 abbrev AreDigits : List ℕ → Type 0
 AreDigits word = list_all is_digit word ≡ true
 
-digit_not_blank : (b : ℕ) → is_digit b ≡ true → is_blank b ≡ false
+digit_not_blank : (b : ℕ) → is_digit b ≡ true → is_line_blank b ≡ false
 digit_not_blank b digit = grind (arith, nat_tests)
 
 digit_not_feed : (b : ℕ) → is_digit b ≡ true → eqb b 10 ≡ false
@@ -38,7 +39,7 @@ digit_not_c b digit = grind (arith, nat_tests)
 digit_not_quit : (b : ℕ) → is_digit b ≡ true → eqb b 113 ≡ false
 digit_not_quit b digit = grind (arith, nat_tests)
 
-front_of_digits : (word : List ℕ) → AreDigits word → without_front is_blank word ≡ word
+front_of_digits : (word : List ℕ) → AreDigits word → without_front is_line_blank word ≡ word
 front_of_digits [] digits = refl
 front_of_digits (b ∷ bs) digits = rw (digit_not_blank b (both (is_digit b) (list_all is_digit bs) digits).0) refl
 
@@ -104,7 +105,7 @@ module _ (most : ℕ) (place : ℕ → ℕ × ℕ) (n : ℕ) (more : List ℕ) (
   record_reply Over plain = absurd plain
 
   -- the line of a number that can be picked answers a question at once
-  pub record_asked : (tries : ℕ) (stream : Stream) → IsPlain stream → ask most place tries stream (record_line n ++ more) ≡ record { events = asks (record_line n) false; value = answer.Pick n; stream = Known First; left = more }
-  unfolding ask
+  pub record_asked : (tries : ℕ) (stream : Stream) → IsPlain stream → ask_for_move most place tries stream (record_line n ++ more) ≡ record { events = asks (record_line n) false; value = answer.Pick n; stream = Known First; left = more }
+  unfolding ask_for_move
   record_asked zero stream plain = rw (record_reply stream plain) (rw append-nil refl)
   record_asked (suc tries) stream plain = rw (record_reply stream plain) (rw append-nil refl)

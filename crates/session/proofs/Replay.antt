@@ -14,9 +14,10 @@ use Rattle.promela_session.specs.declared.choice.Answer.{Answer}
 use Rattle.promela_session.specs.declared.choice.Answer.TheVariants as answer
 use Rattle.promela_session.specs.Events.{Event, Put, Told, Corrected, Asked, AskedEnd, Recorded, Stepped, asks, output, front, recorded, Part, preceded, followed, record_line, placed_line, list_from, prompt}
 use Rattle.profile.specs.declared.TheConstants.{LINE_BYTES, BAD_LINES}
-use Rattle.promela_session.specs.Lines.{Line, line_within, read_of, saw_end, reply_of, reply_in, number_of, number_up_to, is_digit, is_quit, trimmed, first_word, behind_word, writes, picked_at, placed_answer, placed_reply}
+use Rattle.profile.specs.Characters.{is_digit}
+use Rattle.promela_session.specs.Lines.{Line, line_within, read_of, saw_end, reply_of, reply_in, number_of, number_up_to, is_quit, trimmed, first_word, behind_word, writes, picked_at, placed_answer, placed_reply}
 use Rattle.session.specs.Answers.{IsPickUpTo}
-use Rattle.promela_session.specs.Session.{Rules, Outcome, Goes, Faults, one_line, next_line, one_reply, begins_second, stream_behind, reply_at, ask, after_line, only, kept, choose, place_of, select, stopped, finished, stepped, answered, story, step_text}
+use Rattle.promela_session.specs.Session.{Rules, Outcome, Goes, Faults, one_line, next_line, one_reply, begins_second, stream_behind, reply_at, ask_for_move, after_line, only_this, kept, choose, place_of_move, select_move, stopped, finished, stepped, answered, story, step_text}
 use Rattle.promela_session.specs.Devices.{converted_events, placed_lines, without_corrections, is_complete, IsSameRun}
 use Rattle.session.specs.Converting.{told_events}
 use Rattle.session.proofs.Parts.{front-append, output-append, recorded-append, front-asks, output-asks, recorded-asks}
@@ -116,9 +117,9 @@ unfolding replay_of
 after_silent more silent (Some said) stream left = (refl, refl)
 after_silent more silent None stream left = silent stream left
 
-pub ask_silent : (most : ℕ) (place : ℕ → ℕ × ℕ) (tries : ℕ) (stream : Stream) (rest : List ℕ) → Silent (ask most place tries stream rest).events
-unfolding ask replay_of
-ask_silent most place zero stream rest = let one = one_reply most place stream rest in Silent-append one.events _ (one_silent most place stream rest) (after_silent (only answer.Hundred) (λ o l. (refl, refl)) one.value one.stream one.left)
+pub ask_silent : (most : ℕ) (place : ℕ → ℕ × ℕ) (tries : ℕ) (stream : Stream) (rest : List ℕ) → Silent (ask_for_move most place tries stream rest).events
+unfolding ask_for_move replay_of
+ask_silent most place zero stream rest = let one = one_reply most place stream rest in Silent-append one.events _ (one_silent most place stream rest) (after_silent (only_this answer.Hundred) (λ o l. (refl, refl)) one.value one.stream one.left)
 ask_silent most place (suc tries) stream rest = let one = one_reply most place stream rest in Silent-append one.events _ (one_silent most place stream rest)
     (after_silent _ (λ o l. ask_silent most place tries o l) one.value one.stream one.left)
 
@@ -224,9 +225,9 @@ after_range : (most : ℕ) (more : Stream → List ℕ → Part Answer) → ((st
 after_range most more range (Some said) stream left here = here
 after_range most more range None stream left here = range stream left
 
-pub ask_range : (most : ℕ) (place : ℕ → ℕ × ℕ) (tries : ℕ) (stream : Stream) (rest : List ℕ) → IsPickUpTo most (ask most place tries stream rest).value
-unfolding ask
-ask_range most place zero stream rest = let one = one_reply most place stream rest in after_range most (only answer.Hundred) (λ o l. tt) one.value one.stream one.left (one_range most place stream rest)
+pub ask_range : (most : ℕ) (place : ℕ → ℕ × ℕ) (tries : ℕ) (stream : Stream) (rest : List ℕ) → IsPickUpTo most (ask_for_move most place tries stream rest).value
+unfolding ask_for_move
+ask_range most place zero stream rest = let one = one_reply most place stream rest in after_range most (only_this answer.Hundred) (λ o l. tt) one.value one.stream one.left (one_range most place stream rest)
 ask_range most place (suc tries) stream rest = let one = one_reply most place stream rest in after_range most _ (λ o l. ask_range most place tries o l) one.value one.stream one.left (one_range most place stream rest)
 
 -- ---- the moves of a run
@@ -323,13 +324,13 @@ module _ {S M : Type 0} (rules : Rules S M) (options : Options) where
 
   -- a move is selected and taken
   select_again : (s : S) (moves : List M) → 0 < length moves → (first : M) (steps : ℕ) (later : S → Stream → List ℕ → Part End) → StepsRunAgain rules options s moves later
-      → RunsAgain (λ stream rest. followed (select First rules s moves stream rest) (answered rules options s moves first steps later))
-  unfolding select
+      → RunsAgain (λ stream rest. followed (select_move First rules s moves stream rest) (answered rules options s moves first steps later))
+  unfolding select_move
   select_again s [] some first steps later ih stream choices more complete = absurd (omega arith)
   select_again s (m ∷ []) some first steps later ih stream choices more complete = answered_again rules options s (m ∷ []) first steps later ih 1 (omega arith) (omega arith) stream choices more complete
   select_again s (m ∷ k ∷ ms) some first steps later ih stream choices more complete =
-      let place = place_of rules s (m ∷ k ∷ ms) in
-      let asked = ask (length (m ∷ k ∷ ms)) place (BAD_LINES - 1) stream choices in
+      let place = place_of_move rules s (m ∷ k ∷ ms) in
+      let asked = ask_for_move (length (m ∷ k ∷ ms)) place (BAD_LINES - 1) stream choices in
       chosen_again (rules.text s) place (m ∷ k ∷ ms) (answered rules options s (m ∷ k ∷ ms) first steps later) (answered_again rules options s (m ∷ k ∷ ms) first steps later ih)
       (answered_stops s (m ∷ k ∷ ms) first steps later) asked.events asked.value asked.stream asked.left more (ask_silent (length (m ∷ k ∷ ms)) place (BAD_LINES - 1) stream choices) (ask_range (length (m ∷ k ∷ ms)) place (BAD_LINES - 1) stream choices)
       (ask_short (length (m ∷ k ∷ ms)) place (BAD_LINES - 1) stream choices) complete

@@ -11,7 +11,7 @@ use Rattle.promela_session.specs.declared.ends.Broken.TheVariants as broken
 use Rattle.promela_session.specs.declared.choice.Answer.{Answer}
 use Rattle.promela_session.specs.declared.choice.Answer.TheVariants as answer
 use Rattle.promela_session.specs.Events.{Purpose, Put, Told, Stepped, Part, preceded, followed, noted, placed_line, fault_line}
-use Rattle.promela_session.specs.Session.{Rules, Goes, Faults, only, kept, choose, place_of, select, stopped, finished, end_of, stepped, step_text, answered, story}
+use Rattle.promela_session.specs.Session.{Rules, Goes, Faults, only_this, kept, choose, place_of_move, select_move, stopped, finished, end_of, stepped, step_text, answered, story}
 use Rattle.session.specs.Answers.{cause_of}
 use Rattle.promela_session.specs.Devices.{Does, Breaks}
 use Rattle.session.specs.Writes.{Leads, PlaysQuestion, WriteBreaks, RecordBreaks, kept_text, StepBreaks, Continues, Acts, Turns, acted, story_after}
@@ -30,7 +30,7 @@ module _ {a b : Holdings} {n : ℕ} where
   write_breaks broken.Record piece rest w = absurd w
 
   pub keep_does : (notes : Version) (place : ℕ → ℕ × ℕ) (said : Answer) (stream : Stream) → IsReadable (kept_text notes place said) → Moved a b [] [] (kept_text notes place said) → Does a b n n (kept notes place said stream) said stream
-  keep_does notes place (answer.Pick k) stream short m = Leads-does (records (noted notes k (place k)) (placed_line k (place k)) (only (answer.Pick k) stream) short m) (only_does (answer.Pick k) stream)
+  keep_does notes place (answer.Pick k) stream short m = Leads-does (records (noted notes k (place k)) (placed_line k (place k)) (only_this (answer.Pick k) stream) short m) (only_does (answer.Pick k) stream)
   keep_does notes place answer.Quit stream short m = only_moves answer.Quit stream m
   keep_does notes place answer.Ended stream short m = only_moves answer.Ended stream m
   keep_does notes place answer.TooLong stream short m = only_moves answer.TooLong stream m
@@ -39,7 +39,7 @@ module _ {a b : Holdings} {n : ℕ} where
 
   pub keep_breaks : (notes : Version) (place : ℕ → ℕ × ℕ) (e : Broken) (said : Answer) (stream : Stream) → IsReadable (kept_text notes place said) → RecordBreaks e a b (kept_text notes place said) → Breaks a b n n e (kept notes place said stream)
   keep_breaks notes place broken.Memory said stream short k = memory_breaks _ k
-  keep_breaks notes place broken.Record (answer.Pick m) stream short k = record_breaks (noted notes m (place m)) (placed_line m (place m)) (only (answer.Pick m) stream) short k
+  keep_breaks notes place broken.Record (answer.Pick m) stream short k = record_breaks (noted notes m (place m)) (placed_line m (place m)) (only_this (answer.Pick m) stream) short k
   keep_breaks notes place broken.Record answer.Quit stream short k = let lt = k.1 in absurd (omega arith)
   keep_breaks notes place broken.Record answer.Ended stream short k = let lt = k.1 in absurd (omega arith)
   keep_breaks notes place broken.Record answer.TooLong stream short k = let lt = k.1 in absurd (omega arith)
@@ -51,15 +51,15 @@ module _ {a b : Holdings} {n : ℕ} where
 -- ---- selecting a move
 
 module _ {S M : Type 0} (notes : Version) (rules : Rules S M) (at : S) where
-  pub select_one : {a : Holdings} {n : ℕ} (moves : List M) (stream : Stream) → length moves ≡ 1 → Does a a n n (select notes rules at moves stream) (answer.Pick 1) stream
-  unfolding select
+  pub select_one : {a : Holdings} {n : ℕ} (moves : List M) (stream : Stream) → length moves ≡ 1 → Does a a n n (select_move notes rules at moves stream) (answer.Pick 1) stream
+  unfolding select_move
   select_one [] stream one = only_does (answer.Pick 1) stream
   select_one (m ∷ []) stream one = only_does (answer.Pick 1) stream
   select_one (m ∷ k ∷ ms) stream one = absurd (omega arith)
 
   pub select_many : (a b : Holdings) (moves : List M) (stream stream' : Stream) (r : Result Answer Broken) → 0 < length moves → (length moves ≡ 1 → ⊥)
-      → PlaysQuestion r a b (choose notes (rules.text at) (place_of rules at moves) moves stream) stream' → PlaysQuestion r a b (select notes rules at moves stream) stream'
-  unfolding select
+      → PlaysQuestion r a b (choose notes (rules.text at) (place_of_move rules at moves) moves stream) stream' → PlaysQuestion r a b (select_move notes rules at moves stream) stream'
+  unfolding select_move
   select_many a b [] stream stream' r some many asked = absurd (omega arith)
   select_many a b (m ∷ []) stream stream' r some many asked = absurd (many refl)
   select_many a b (m ∷ k ∷ ms) stream stream' r some many asked = asked
@@ -131,7 +131,7 @@ module _ {S M : Type 0} (notes : Version) (rules : Rules S M) (options : Options
 
   -- what a move and its answer lead to
   abbrev pub answer_part : ℕ → List M → M → List ℕ → Part End
-  answer_part fuel moves m rest = followed (select notes rules at moves stream rest) (answered rules options at moves m steps (λ t o q. story notes rules options fuel t (steps + 1) o q))
+  answer_part fuel moves m rest = followed (select_move notes rules at moves stream rest) (answered rules options at moves m steps (λ t o q. story notes rules options fuel t (steps + 1) o q))
 
   pub story_some : (fuel : ℕ) (m : M) (ms : List M) → rules.moves at ≡ m ∷ ms → (rest : List ℕ) → story notes rules options (suc fuel) at steps stream rest ≡ answer_part fuel (m ∷ ms) m rest
   unfolding story
@@ -158,8 +158,8 @@ module _ {S M : Type 0} (notes : Version) (rules : Rules S M) (options : Options
 
 -- the last piece was written
 pub last_does : {a b : Holdings} {n : ℕ} (piece : List ℕ) (end end' : End) (stream : Stream) → end ≡ end' → Moved a b [] piece []
-    → Does a b n n (λ left. preceded (Put Told piece ∷ []) (only end' stream left)) end stream
-last_does piece end end' stream is took = rw is (Leads-does (puts piece (only end' stream) took) (only_does end' stream))
+    → Does a b n n (λ left. preceded (Put Told piece ∷ []) (only_this end' stream left)) end stream
+last_does piece end end' stream is took = rw is (Leads-does (puts piece (only_this end' stream) took) (only_does end' stream))
 
 -- a turn in which a move was selected
 module _ {S M : Type 0} (notes : Version) (rules : Rules S M) (options : Options) (at t : S) (steps steps' : ℕ) (course course' : Course) (moves : List M) (a b : Holdings) (is : moves ≡ rules.moves at) (some : length moves ≡ 0 → ⊥) (lt : steps < options.limit) where
@@ -183,7 +183,7 @@ module _ {S M : Type 0} (notes : Version) (rules : Rules S M) (options : Options
 module _ {S M : Type 0} (notes : Version) (rules : Rules S M) (options : Options) (at t : S) (steps steps' : ℕ) (stream stream' : Stream) (moves : List M) (a b : Holdings) (r : Result (Option End) Broken) where
   pub acts_of : moves ≡ rules.moves at
       → ((later : S → Stream → List ℕ → Part End) (first : M)
-      → Continues r a b steps steps' (λ rest. followed (select notes rules at moves stream rest) (answered rules options at moves first steps later)) (later t stream') stream')
+      → Continues r a b steps steps' (λ rest. followed (select_move notes rules at moves stream rest) (answered rules options at moves first steps later)) (later t stream') stream')
       → (later : S → Stream → List ℕ → Part End) (first : M) → Continues r a b steps steps' (acted notes rules options at first steps later stream) (later t stream') stream'
   acts_of is acts = subst (λ (ms : List M). (later : S → Stream → List ℕ → Part End) (first : M)
-      → Continues r a b steps steps' (λ rest. followed (select notes rules at ms stream rest) (answered rules options at ms first steps later)) (later t stream') stream') is acts
+      → Continues r a b steps steps' (λ rest. followed (select_move notes rules at ms stream rest) (answered rules options at ms first steps later)) (later t stream') stream') is acts

@@ -5,8 +5,9 @@ use Rattle.std.specs.Prelude.{unwrap_or, option_map}
 use Rattle.std.proofs.lemmas.List.{length-drop, take_all}
 use Rattle.std.proofs.lemmas.Option.{slice_get_read}
 use Rattle.promela_session.specs.declared.choice.Answer.TheVariants as answer
-use Rattle.promela_session.specs.Lines.{is_blank, is_digit, is_gap, is_quit, end_trimmed, without_front, trimmed, first_word, behind_word, number_up_to, writes, reply_of, placed_answer, placed_reply}
-use Rattle.promela_session.specs.Session.{Rules, place_of}
+use Rattle.profile.specs.Characters.{is_digit}
+use Rattle.promela_session.specs.Lines.{is_line_blank, is_gap, is_quit, end_trimmed, without_front, trimmed, first_word, behind_word, number_up_to, writes, reply_of, placed_answer, placed_reply}
+use Rattle.promela_session.specs.Session.{Rules, place_of_move}
 
 -- ---- what a line says
 
@@ -26,7 +27,7 @@ module _ (most : ℕ) (place : ℕ → ℕ × ℕ) (line : List ℕ) where
 
 -- the place of a move is that of its number
 pub place_is : {S M : Type 0} (rules : Rules S M) (s : S) (moves : List M) (n : ℕ) (m : M) (place : ℕ × ℕ) → (0 < n) × (n ≤ length moves) → m ≡ get_or moves (n - 1) m → place ≡ rules.origin s m
-    → place_of rules s moves n ≡ place
+    → place_of_move rules s moves n ≡ place
 place_is {S} {M} rules s moves n m place range is at = ap (λ (o : Option M). unwrap_or (option_map (rules.origin s) o) (0, 0)) (slice_get_read moves (length moves) (n - 1) m refl (omega arith) is) ∙ sym at
 
 -- two words write the place, or one of them does not
@@ -69,9 +70,9 @@ rest_is line word is =
 reply_digit : (most b n : ℕ) → is_digit b ≡ true → number_up_to most (b ∷ []) ≡ Some n → reply_of most (b ∷ []) ≡ Some (answer.Pick n)
 unfolding reply_of
 reply_digit most b n digit some =
-    let word : is_blank b ≡ false = grind (arith, nat_tests) in
+    let word : is_line_blank b ≡ false = grind (arith, nat_tests) in
     let other : is_quit (b ∷ []) ≡ false = grind (arith, nat_tests) in
-    let front : without_front is_blank (b ∷ []) ≡ b ∷ [] = rw word refl in
+    let front : without_front is_line_blank (b ∷ []) ≡ b ∷ [] = rw word refl in
     let end : end_trimmed (b ∷ []) ≡ b ∷ [] = rw word refl in
     let whole : trimmed (b ∷ []) ≡ b ∷ [] = ap end_trimmed front ∙ end in
     rw (whole, other, some) refl

@@ -11,9 +11,10 @@ use Rattle.promela_session.specs.declared.line.LineEnd.TheVariants.{Whole, Last,
 use Rattle.promela_session.specs.declared.choice.Answer.{Answer}
 use Rattle.promela_session.specs.declared.choice.Answer.TheVariants as answer
 use Rattle.profile.specs.declared.TheConstants.{LINE_BYTES}
-use Rattle.promela_session.specs.Lines.{Line, line_within, lengthened, is_blank, is_digit, number_of, number_up_to, is_quit, is_gap, end_trimmed, trimmed, first_word, behind_word, writes, picked_at, placed_answer, placed_reply, reply_of, reply_in, read_of, saw_end, without_front}
+use Rattle.profile.specs.Characters.{is_digit}
+use Rattle.promela_session.specs.Lines.{Line, line_within, lengthened, is_line_blank, number_of, number_up_to, is_quit, is_gap, end_trimmed, trimmed, first_word, behind_word, writes, picked_at, placed_answer, placed_reply, reply_of, reply_in, read_of, saw_end, without_front}
 use Rattle.promela_session.specs.Events.{asks, Part, preceded, digits_of, all_digits, record_line, placed_line}
-use Rattle.promela_session.specs.Session.{one_line, next_line, one_reply, begins_second, stream_behind, reply_at, ask, after_line, only}
+use Rattle.promela_session.specs.Session.{one_line, next_line, one_reply, begins_second, stream_behind, reply_at, ask_for_move, after_line, only_this}
 use Rattle.promela_session.specs.declared.form.Stream.{Stream}
 use Rattle.promela_session.specs.declared.form.Stream.TheVariants.{Unread, Known, Over}
 use Rattle.promela_session.specs.declared.form.Version.{Version}
@@ -177,17 +178,17 @@ IsShort answer.TooLong = ⊤
 IsShort answer.Hundred = ⊤
 IsShort answer.Misfit = ⊤
 
-front_shorter : (bs : List ℕ) → length (without_front is_blank bs) ≤ length bs
+front_shorter : (bs : List ℕ) → length (without_front is_line_blank bs) ≤ length bs
 front_shorter [] = omega arith
-front_shorter (b ∷ bs) = by (is_blank b) (front_shorter bs)
+front_shorter (b ∷ bs) = by (is_line_blank b) (front_shorter bs)
   where
-    by : (t : Bool) → length (without_front is_blank bs) ≤ length bs → length (if t then without_front is_blank bs else b ∷ bs) ≤ length (b ∷ bs)
+    by : (t : Bool) → length (without_front is_line_blank bs) ≤ length bs → length (if t then without_front is_line_blank bs else b ∷ bs) ≤ length (b ∷ bs)
     by true h = omega (arith, h)
     by false h = omega arith
 
 end_shorter : (bs : List ℕ) → length (end_trimmed bs) ≤ length bs
 end_shorter [] = omega arith
-end_shorter (b ∷ bs) = by (list_all is_blank (b ∷ bs)) (end_shorter bs)
+end_shorter (b ∷ bs) = by (list_all is_line_blank (b ∷ bs)) (end_shorter bs)
   where
     by : (t : Bool) → length (end_trimmed bs) ≤ length bs → length (if t then [] else b ∷ end_trimmed bs) ≤ length (b ∷ bs)
     by true h = omega arith
@@ -209,7 +210,7 @@ reply_short most line h = by_quit (is_quit (trimmed line))
   where
     by_quit : (q : Bool) → IfSome (cond q (Some answer.Quit) (option_map answer.Pick (number_up_to most (trimmed line)))) IsShort
     by_quit true = tt
-    by_quit false = let a = front_shorter line in let b = end_shorter (without_front is_blank line) in number_short most (trimmed line) (omega (arith, a, b, h))
+    by_quit false = let a = front_shorter line in let b = end_shorter (without_front is_line_blank line) in number_short most (trimmed line) (omega (arith, a, b, h))
 
 -- the number of a line with the place of its move
 first_no_longer : (bs : List ℕ) → length (first_word bs) ≤ length bs
@@ -236,7 +237,7 @@ placed_short most place line h = by_quit (is_quit (trimmed line))
     by_quit true = tt
     by_quit false =
         let a = front_shorter line in
-        let b = end_shorter (without_front is_blank line) in
+        let b = end_shorter (without_front is_line_blank line) in
         let c = first_no_longer (trimmed line) in
         picked_short place (first_word (behind_word (trimmed line))) (behind_word (behind_word (trimmed line))) (number_up_to most (first_word (trimmed line))) (number_short most (first_word (trimmed line)) (omega (arith, a, b, c, h)))
 
@@ -301,7 +302,7 @@ after_short : (more : Stream → List ℕ → Part Answer) → ((stream : Stream
 after_short more short (Some said) stream left here = here
 after_short more short None stream left here = short stream left
 
-pub ask_short : (most : ℕ) (place : ℕ → ℕ × ℕ) (tries : ℕ) (stream : Stream) (rest : List ℕ) → IsShort (ask most place tries stream rest).value
-unfolding ask
-ask_short most place zero stream rest = let one = one_reply most place stream rest in after_short (only answer.Hundred) (λ o l. tt) one.value one.stream one.left (one_short most place stream rest)
+pub ask_short : (most : ℕ) (place : ℕ → ℕ × ℕ) (tries : ℕ) (stream : Stream) (rest : List ℕ) → IsShort (ask_for_move most place tries stream rest).value
+unfolding ask_for_move
+ask_short most place zero stream rest = let one = one_reply most place stream rest in after_short (only_this answer.Hundred) (λ o l. tt) one.value one.stream one.left (one_short most place stream rest)
 ask_short most place (suc tries) stream rest = let one = one_reply most place stream rest in after_short _ (λ o l. ask_short most place tries o l) one.value one.stream one.left (one_short most place stream rest)

@@ -12,7 +12,7 @@ use Rattle.promela_session.specs.declared.ends.Broken.TheVariants as broken
 use Rattle.promela_session.specs.declared.choice.Answer.{Answer}
 use Rattle.promela_session.specs.declared.choice.Answer.TheVariants as answer
 use Rattle.promela_session.specs.Events.{Event, front, Part, followed, preceded, noted, fault_line}
-use Rattle.promela_session.specs.Session.{Rules, Goes, Faults, stepped, step_text, select, answered, story, end_of}
+use Rattle.promela_session.specs.Session.{Rules, Goes, Faults, stepped, step_text, select_move, answered, story, end_of}
 use Rattle.promela_session.specs.Devices.{Ends, IsBrokenOff, MovedBy, Begins, Does, Breaks, CountsBroken}
 use Rattle.promela_session.specs.declared.form.Stream.{Stream}
 use Rattle.promela_session.specs.declared.form.Version.{Version}
@@ -112,7 +112,7 @@ Continues r before after steps steps' part rest stream =
 -- a move is selected, and what follows the answer is done
 abbrev pub acted : {S M : Type 0} → Version → Rules S M → Options → S → M → ℕ → (S → Stream → List ℕ → Part End) → Stream → List ℕ → Part End
 acted notes rules options s first steps later stream rest =
-    followed (select notes rules s (rules.moves s) stream rest) (answered rules options s (rules.moves s) first steps later)
+    followed (select_move notes rules s (rules.moves s) stream rest) (answered rules options s (rules.moves s) first steps later)
 
 -- a move was selected and taken, or the session ended, or it was broken off: whatever follows the step
 abbrev pub Acts : {S M : Type 0} → Result (Option End) Broken → Terms → Rules S M → S → S → Holdings → Holdings → ℕ → ℕ → Course → Course → Type 0

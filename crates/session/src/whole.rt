@@ -2,7 +2,7 @@
 ghost use Rattle.std.specs.Prelude.{◌≡◌, ◌<◌, ◌≤◌, ◌+◌, ◌^◌, List, ℕ, length, IfOk, IfNone, IfSome, ◌≢◌};
 ghost use Rattle.std.specs.List.{Contains};
 ghost use Rattle.session.specs.Answers.{IsPickUpTo};
-ghost use Rattle.promela_session.specs.Session.{select, final_lines, final_cause, end_of, transcript, transcript_noting};
+ghost use Rattle.promela_session.specs.Session.{select_move, final_lines, final_cause, end_of, transcript, transcript_noting};
 ghost use Rattle.session.specs.Answers.{cause_of};
 ghost use Rattle.session.specs.Takes.{choice_at};
 ghost use Rattle.session.specs.Writes.{PlaysQuestion, CountsAll, Writes, Acts, Turns, Runs, IsOwnEnd};
@@ -50,7 +50,7 @@ fn select<M: Machine, D: Devices>(
 ) -> Result<Answer, Broken>
     requires all { moves.now ≡ M.rules.moves machine.now }
     requires some { 0 < length moves.now }
-    ensures part { PlaysQuestion result (D.holds devices.old) (D.holds devices.new) (select notes M.rules machine.now moves.now stream.old) stream.new }
+    ensures part { PlaysQuestion result (D.holds devices.old) (D.holds devices.new) (select_move notes M.rules machine.now moves.now stream.old) stream.new }
     ensures range { IfOk result (IsPickUpTo (length moves.now)) }
     ensures count { CountsAll result (D.holds devices.old).failures (D.holds devices.new).failures }
 {

@@ -5,7 +5,7 @@ ghost use Rattle.promela_session.specs.declared.ends.Broken.TheVariants.{Memory}
 ghost use Rattle.session.specs.Writes.{CountsAll, Writes, kept_text, RecordsAnswer, Composes, Steps};
 ghost use Rattle.profile.specs.declared.TheConstants.{LINE_BYTES};
 ghost use Rattle.session.specs.Answers.{IsPickUpTo};
-ghost use Rattle.promela_session.specs.Session.{place_of, final_lines};
+ghost use Rattle.promela_session.specs.Session.{place_of_move, final_lines};
 ghost use Rattle.promela_session.specs.Events.{list_from, prompt, last_line, noted};
 
 use crate::draft::{
@@ -82,8 +82,8 @@ fn draft_noted<M: Machine>(
     requires all { moves.now ≡ M.rules.moves machine.now }
     requires some { 0 < n }
     requires within { n ≤ length moves.now }
-    ensures line { OnOk result (draft.new.piece.items ≡ noted notes n (place_of M.rules machine.now moves.now n)) }
-    ensures short { length (noted notes n (place_of M.rules machine.now moves.now n)) ≤ LINE_BYTES + 1 }
+    ensures line { OnOk result (draft.new.piece.items ≡ noted notes n (place_of_move M.rules machine.now moves.now n)) }
+    ensures short { length (noted notes n (place_of_move M.rules machine.now moves.now n)) ≤ LINE_BYTES + 1 }
 {
     match notes {
         Version::First => draft_record(n, &mut draft.piece),
@@ -105,8 +105,8 @@ pub fn keep<M: Machine, D: Devices>(
 ) -> Result<(), Broken>
     requires all { moves.now ≡ M.rules.moves machine.now }
     requires range { IsPickUpTo (length moves.now) said }
-    ensures text { RecordsAnswer result (D.holds devices.old) (D.holds devices.new) (kept_text notes (place_of M.rules machine.now moves.now) said) }
-    ensures short { length (kept_text notes (place_of M.rules machine.now moves.now) said) ≤ LINE_BYTES + 1 }
+    ensures text { RecordsAnswer result (D.holds devices.old) (D.holds devices.new) (kept_text notes (place_of_move M.rules machine.now moves.now) said) }
+    ensures short { length (kept_text notes (place_of_move M.rules machine.now moves.now) said) ≤ LINE_BYTES + 1 }
     ensures count { CountsAll result (D.holds devices.old).failures (D.holds devices.new).failures }
 {
     match said {

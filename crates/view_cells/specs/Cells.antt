@@ -11,15 +11,15 @@ use Rattle.pml_program.specs.declared.program.Program.{Program}
 use Rattle.promela_run.specs.State.{leaf, State}
 use Rattle.promela_process.specs.declared.place.Place.{Place}
 use Rattle.promela_process.specs.Store.{size_at}
-use Rattle.promela_run.specs.Lines.{constant, path}
+use Rattle.promela_run.specs.Lines.{mtype_numbered, path}
 use Rattle.run_values.specs.Changed.{process_in}
-use Rattle.promela_run.specs.World.{proctype_of}
+use Rattle.promela_run.specs.World.{sort_of_process}
 use Rattle.run_layout.specs.Tables.{slots_of}
 
 -- the globals, or the variables of a process
 abbrev pub variables_by : State → Option ℕ → List Slot
 variables_by s None = s.program.globals
-variables_by s (Some p) = slots_of (proctype_of s p)
+variables_by s (Some p) = slots_of (sort_of_process s p)
 
 -- the variables of a frame
 abbrev pub variables : State → ℕ → List Slot
@@ -68,4 +68,4 @@ is_mtype f = false
 
 -- the name of a number of this type: an mtype's alone have names
 abbrev pub mtype_name : Program → Form → ℤ → Option Word
-mtype_name pr f n = if is_mtype f then constant pr.constants n else None
+mtype_name pr f n = if is_mtype f then mtype_numbered pr.constants n else None

@@ -6,7 +6,7 @@ use Rattle.promela_process.specs.Control.{Control}
 use Rattle.promela_process.specs.Offers.{line_at}
 use Rattle.promela_run.specs.Lines.{proctype_name}
 use Rattle.promela_run.specs.State.{Stand, State}
-use Rattle.promela_run.specs.World.{proctype_of}
+use Rattle.promela_run.specs.World.{sort_of_process}
 
 abbrev pub name_by : Option Proctype → List ℕ
 name_by None = []
@@ -14,7 +14,7 @@ name_by (Some q) = proctype_name q.name
 
 -- the name of a process's proctype, or of init
 abbrev pub name_of : State → ℕ → List ℕ
-name_of s p = name_by (proctype_of s p)
+name_of s p = name_by (sort_of_process s p)
 
 abbrev pub line_in : Option Proctype → Control → ℕ
 line_in None c = 0

@@ -3,7 +3,7 @@
 ghost use Rattle.std.specs.Prelude.{◌≡◌, length, option_map, slice_get};
 ghost use Rattle.std.specs.Option.{option_copied};
 ghost use Rattle.promela_process.specs.Store.{size_at, number_at};
-ghost use Rattle.promela_run.specs.Lines.{worth as worth_of, constant};
+ghost use Rattle.promela_run.specs.Lines.{worth as worth_of, mtype_numbered};
 ghost use Rattle.view_text.specs.Written.{Adds, Stays};
 ghost use Rattle.view_cells.specs.Cells.{variables, variable_of, place as at, form_of, is_chan, is_mtype, path_of, mtype_name as name_of_mtype};
 
@@ -155,7 +155,7 @@ pub fn add_cell(picture: &Picture<'_, '_, '_>, place: Place, out: &mut Writer)
 
 // The name of an mtype's number among these.
 fn constant<'a>(constants: &[Token<'a>], number: i32) -> Option<&'a [u8]>
-    ensures { option_copied result ≡ option_map (λ w. w.text) (constant constants.now number) }
+    ensures { option_copied result ≡ option_map (λ w. w.text) (mtype_numbered constants.now number) }
 {
     if number <= 0 {
         return None;

@@ -6,7 +6,7 @@ ghost use Rattle.std.specs.Fmt.{decimal};
 ghost use Rattle.pml_flow.specs.Points.{point_at};
 ghost use Rattle.promela_process.specs.Offers.{line_at};
 ghost use Rattle.run_state.specs.Standing.{IsBody, stand_of};
-ghost use Rattle.promela_run.specs.World.{proctype_of as proctype_in};
+ghost use Rattle.promela_run.specs.World.{sort_of_process as proctype_in};
 ghost use Rattle.view_text.specs.Written.{Adds};
 ghost use Rattle.view_cells.specs.Processes.{name_of, line_by, line_of};
 

@@ -1,7 +1,7 @@
 -- All of a state, as the variables of a condition show it.
 use Rattle.std.specs.Prelude.{ℕ, zero, suc, ◌+◌, ◌==◌, ◌&&◌, ◌||◌, Bool, false, if◌then◌else◌, List, length, Option, Some, None, slice_get, ℤ, pos, option_map}
 use Rattle.promela_process.specs.Expressions.{Reading}
-use Rattle.promela_process.specs.Numbers.{truth}
+use Rattle.promela_process.specs.Numbers.{truth_number}
 use Rattle.promela_process.specs.Store.{size_at, number_at}
 use Rattle.promela_process.specs.declared.place.Place.{Place}
 use Rattle.promela_run.specs.State.{State, channel_at, filling}
@@ -65,9 +65,9 @@ abbrev pub number_by : State → Option Subject → ℕ → ℤ
 number_by s None cell = pos 0
 number_by s (Some (Global v)) cell = number_by_frame s 0 v cell
 number_by s (Some (Local w v)) cell = number_by_frame s (w.process + 1) v cell
-number_by s (Some (At w x)) cell = truth (stands_at s w x)
-number_by s (Some (Any k x)) cell = truth (any_of s k x (length s.stands))
-number_by s (Some (Line line)) cell = truth (any_at s line (length s.stands))
+number_by s (Some (At w x)) cell = truth_number (stands_at s w x)
+number_by s (Some (Any k x)) cell = truth_number (any_of s k x (length s.stands))
+number_by s (Some (Line line)) cell = truth_number (any_at s line (length s.stands))
 
 -- what a condition reads of a state, where its variables are these
 abbrev pub all_of : State → List Subject → Reading

@@ -11,7 +11,7 @@ use Rattle.promela_run.specs.declared.moves.Pick.{Pick}
 use Rattle.promela_run.specs.declared.moves.Move.{Move}
 use Rattle.promela_run.specs.declared.moves.Move.TheVariants.{Alone, Pair}
 use Rattle.promela_run.specs.State.{picked, State}
-use Rattle.promela_run.specs.World.{proctype_of, offer_text, pick_text, move_text}
+use Rattle.promela_run.specs.World.{sort_of_process, offer_with_heading, pick_text, move_text}
 use Rattle.view_waits.specs.Offers.{bare, text_in, offered_line}
 use Rattle.json.specs.Token.{Token}
 use Rattle.view_json.specs.declared.known.Known.{Known}
@@ -78,13 +78,13 @@ some_bytes [] e = absurd (true≢false (sym e))
 some_bytes (x ∷ xs) e = omega arith
 
 by_offer : (p : ℕ) (q : Option Proctype) (o : Option Offer) → 0 < length (option_map_or (λ (x : Offer). x.text) o [])
-    → offer_text p q o ≡ behind_heading p q (option_map_or (λ (x : Offer). x.text) o [])
+    → offer_with_heading p q o ≡ behind_heading p q (option_map_or (λ (x : Offer). x.text) o [])
 by_offer p q None some = absurd (omega (arith, some))
 by_offer p None (Some o) some = refl
 by_offer p (Some q) (Some o) some = refl
 
 pick_is : (s : State) (k : Pick) → 0 < length (whole_text s k) → pick_text s k ≡ offer_by s k.process (whole_text s k)
-pick_is s k some = by_offer k.process (proctype_of s k.process) (picked s k) some
+pick_is s k some = by_offer k.process (sort_of_process s k.process) (picked s k) some
 
 with_reply : (s : State) (p : ℕ) (bs : List ℕ) (q : ℕ) (cs : List ℕ) → 0 < length cs → text_by s p bs q cs ≡ offer_by s p bs ++ (codes " -> " ++ offer_by s q cs)
 with_reply s p bs q [] some = absurd (omega (arith, some))

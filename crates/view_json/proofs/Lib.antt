@@ -12,3 +12,4 @@ pub mod Ended
 pub mod Asked
 pub mod Counting
 pub mod Kept
+pub mod Places

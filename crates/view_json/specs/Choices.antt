@@ -4,7 +4,7 @@ use Rattle.json.specs.Token.{Token}
 use Rattle.promela_process.specs.Offers.{Offer}
 use Rattle.promela_process.specs.Control.{Control}
 use Rattle.promela_run.specs.State.{picked as offer_of, State}
-use Rattle.promela_run.specs.World.{proctype_of}
+use Rattle.promela_run.specs.World.{sort_of_process}
 use Rattle.promela_run.specs.declared.moves.Pick.{Pick}
 use Rattle.promela_run.specs.declared.moves.Move.{Move}
 use Rattle.promela_run.specs.declared.moves.Move.TheVariants.{Death, Alone, Pair}
@@ -18,7 +18,7 @@ use Rattle.view_json.specs.Shown.{Lists}
 -- where a process stands behind an offer: at a line of its proctype, or of the closing brace
 abbrev pub line_behind : State → ℕ → Option Offer → ℕ
 line_behind s p None = 0
-line_behind s p (Some o) = line_in (proctype_of s p) o.next
+line_behind s p (Some o) = line_in (sort_of_process s p) o.next
 
 -- the line at which the process of a pick stands behind it
 abbrev pub next_line : State → Pick → ℕ

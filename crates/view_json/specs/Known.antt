@@ -1,8 +1,11 @@
 -- What was written of a process at an offer, and is written again for the next that does the same.
-use Rattle.std.specs.Prelude.{◌≡◌, ℕ, Bool, false, ◌&&◌, not, nat_eq, List, [], ◌++◌, codes}
+use Rattle.std.specs.Prelude.{◌≡◌, ℕ, Bool, true, false, ◌&&◌, not, nat_eq, List, [], ◌++◌, Option, Some, codes}
 use Rattle.std.specs.Str.{bytes_eq}
 use Rattle.std.specs.Option.{option_map_or}
 use Rattle.json.specs.Token.{Token}
+use Rattle.pml_program.specs.declared.program.Action.{Action}
+use Rattle.pml_program.specs.declared.program.Action.TheVariants.{Send, Receive}
+use Rattle.pml_program.specs.declared.program.Basic.{Basic, Plain}
 use Rattle.promela_run.specs.State.{picked, State}
 use Rattle.promela_run.specs.declared.moves.Pick.{Pick}
 use Rattle.view_waits.specs.Offers.{offered_line, offered_text}
@@ -14,6 +17,21 @@ use Rattle.view_json.specs.Choices.{actor, next_line}
 -- the text of the offer that a pick names, with its line
 abbrev pub whole_text : State → Pick → List ℕ
 whole_text s k = option_map_or (λ o. o.text) (picked s k) []
+
+-- whether an action sends or receives
+abbrev pub is_deal : Action → Bool
+is_deal (Send x order es) = true
+is_deal (Receive x search how ws) = true
+is_deal other = false
+
+-- whether a statement does
+abbrev pub has_deal : Option Basic → Bool
+has_deal (Some (Plain x)) = is_deal x
+has_deal other = false
+
+-- whether the offer that a pick names does
+abbrev pub deals_at : State → Pick → Bool
+deals_at s k = option_map_or (λ o. has_deal o.basic) (picked s k) false
 
 -- a process, an offer with this line and text, and where it stands behind it
 abbrev pub acted : State → ℕ → ℕ → List ℕ → ℕ → List Token
@@ -36,6 +54,7 @@ pub record IsSeen (s : State) (k : Pick) (x : Seen) : Type 0 where
   pub line : x.line ≡ offered_line s k
   pub text : x.text.now ≡ whole_text s k
   pub next : x.next ≡ next_line s k
+  pub deals : x.deals ≡ deals_at s k
 
 -- the same of another pick
 abbrev pub of_pick : Pick → Known → Known

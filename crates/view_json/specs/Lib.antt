@@ -5,6 +5,7 @@ pub mod Shown
 pub mod Choices
 pub mod Known
 pub mod Before
+pub mod Places
 pub mod Steps
 pub mod Added
 pub mod Run

@@ -4,7 +4,7 @@ use Rattle.std.specs.Str.{bytes_eq}
 use Rattle.pml_program.specs.declared.program.Proctype.{Proctype}
 use Rattle.promela_run.specs.declared.moves.Move.{Move}
 use Rattle.promela_run.specs.State.{State}
-use Rattle.promela_run.specs.World.{proctype_of, heading, move_text}
+use Rattle.promela_run.specs.World.{sort_of_process, heading, move_text}
 use Rattle.view_json.specs.declared.texts.Parts.{Parts}
 use Rattle.view_json.specs.declared.texts.Line.{Line}
 use Rattle.view_json.specs.Objects.{text}
@@ -15,7 +15,7 @@ behind_heading p (Some q) bs = heading p q ++ bs
 
 -- the text of a process with an offer that has this text
 abbrev pub offer_by : State → ℕ → List ℕ → List ℕ
-offer_by s p bs = behind_heading p (proctype_of s p) bs
+offer_by s p bs = behind_heading p (sort_of_process s p) bs
 
 -- the text of a move: of a process, or of a sender and a receiver
 abbrev pub text_by : State → ℕ → List ℕ → ℕ → List ℕ → List ℕ

@@ -7,7 +7,7 @@ ghost use Rattle.view_tokens.specs.Printed.{Writes};
 ghost use Rattle.view_json.specs.Objects.{member, object};
 ghost use Rattle.view_json.specs.Choices.{actor, AddsChoice};
 ghost use Rattle.view_json.specs.Known.{Knows, alike, of_pick};
-ghost use Rattle.view_json.specs.Before.{Deals, Meets, AreSeen};
+ghost use Rattle.view_json.specs.Before.{Deals, Meets, AreSeen, couple_alike};
 
 use crate::deal::{Deal, keep_deal};
 use crate::known::{Known, Seen, is_alike, know};
@@ -53,6 +53,7 @@ impl Couple {
 
 /// Whether what was written is of the same processes, at offers that are seen so.
 pub(crate) fn are_alike(last: &Couple, of: Meeting<'_>) -> bool
+    ensures both { result ≡ couple_alike of.entry last.now }
     ensures first { result ≡ true → alike last.now.first of.entry.sender.process of.entry.first ≡ true }
     ensures partner { result ≡ true → alike last.now.partner of.entry.receiver.process of.entry.partner ≡ true }
 {

@@ -4,7 +4,8 @@ ghost use Rattle.std.specs.Prelude.{◌≡◌, ◌<◌, [], All, length};
 ghost use Rattle.promela_run.specs.declared.moves.Move.TheVariants.{Pair};
 ghost use Rattle.promela_run.specs.State.{State};
 ghost use Rattle.view_json.specs.Choices.{AddsChoice};
-ghost use Rattle.view_json.specs.Before.{Meets, AreSeen};
+ghost use Rattle.view_json.specs.Before.{Meets, AreSeen, couple_alike};
+ghost use Rattle.view_json.specs.Places.{passes_at, place_by};
 
 use crate::couple::{Couple, Meeting, add_couple, are_alike};
 use crate::known::seen_at;
@@ -36,7 +37,9 @@ impl Couples {
 }
 
 // Whether what stands at a place is of the same processes, at offers that are seen so.
-fn is_at(all: &[Couple], at: usize, of: Meeting<'_>) -> bool {
+fn is_at(all: &[Couple], at: usize, of: Meeting<'_>) -> bool
+    ensures { result ≡ passes_at (couple_alike of.entry) all.now at }
+{
     match all.get(at) {
         Some(one) => are_alike(one, of),
         None => false,
@@ -44,7 +47,9 @@ fn is_at(all: &[Couple], at: usize, of: Meeting<'_>) -> bool {
 }
 
 // The place of a rendezvous: first that of the last of all is asked.
-fn place_of(all: &[Couple], last: usize, of: Meeting<'_>) -> Option<usize> {
+fn place_of(all: &[Couple], last: usize, of: Meeting<'_>) -> Option<usize>
+    ensures { result ≡ place_by (couple_alike of.entry) all.now last }
+{
     if is_at(all, last, of) {
         return Some(last);
     }

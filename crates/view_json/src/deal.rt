@@ -1,10 +1,12 @@
 //! What a move does with a message, and words for that.
 
-ghost use Rattle.std.specs.Prelude.{◌≡◌, ℕ, List, codes};
+ghost use Rattle.std.specs.Prelude.{◌≡◌, ℕ, true, false, [], List, codes, Decides};
 ghost use Rattle.promela_run.specs.State.{State};
 ghost use Rattle.view_tokens.specs.Printed.{Writes};
+ghost use Rattle.view_waits.specs.declared.transfer.Does.TheVariants.{Statement};
 ghost use Rattle.view_json.specs.Objects.{detail};
-ghost use Rattle.view_json.specs.Before.{Deals};
+ghost use Rattle.view_json.specs.Lines.{dealt};
+ghost use Rattle.view_json.specs.Before.{Deals, IsWritten};
 
 use crate::lines::transfer;
 use crate::objects::detail;
@@ -17,7 +19,9 @@ use view_tokens::tokens::Json;
 use view_waits::transfer::{Does, Transfer, transfer_of};
 
 /// A move that does nothing with a message.
-pub(crate) fn no_transfer(alloc: Global) -> Transfer {
+pub(crate) fn no_transfer(alloc: Global) -> Transfer
+    ensures { dealt result ≡ record { does = Statement; channel = 0; message = [] } }
+{
     Transfer {
         does: Does::Statement,
         channel: 0,
@@ -26,7 +30,9 @@ pub(crate) fn no_transfer(alloc: Global) -> Transfer {
 }
 
 // Whether two moves do the same.
-fn are_same(one: &Transfer, other: &Transfer) -> bool {
+fn are_same(one: &Transfer, other: &Transfer) -> bool
+    ensures { Decides result (dealt one.now ≡ dealt other.now) }
+{
     one.does == other.does
         && one.channel == other.channel
         && one.message.as_slice() == other.message.as_slice()
@@ -38,7 +44,9 @@ pub(crate) fn does_same(
     m: Move,
     deals: bool,
     done: &Transfer,
-) -> bool {
+) -> bool
+    ensures { deals ≡ false → Decides result (done.now.does ≡ Statement) }
+{
     if !deals {
         return done.does == Does::Statement;
     }
@@ -88,7 +96,10 @@ impl Deal {
     }
 
     /// Whether a rendezvous of this sender does the same.
-    pub fn is_of(&self, picture: &Picture<'_, '_, '_>, of: Pick, to: Pick, is_late: bool) -> bool {
+    pub fn is_of(&self, picture: &Picture<'_, '_, '_>, of: Pick, to: Pick, is_late: bool) -> bool
+        ensures written { result ≡ true → IsWritten self.now }
+        ensures same { IsWritten self.now → self.now.of ≡ of → self.now.is_late ≡ is_late → result ≡ true }
+    {
         if self.done.is_refused() || self.effect.is_refused() {
             return false;
         }

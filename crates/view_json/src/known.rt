@@ -1,10 +1,11 @@
 //! What was written of a process at an offer, and is written again for the next that does the same.
 
-ghost use Rattle.std.specs.Prelude.{◌≡◌, [], true, slice_get, Some};
+ghost use Rattle.std.specs.Prelude.{◌≡◌, [], true, false, slice_get, Some};
+ghost use Rattle.std.specs.Option.{option_copied};
 ghost use Rattle.run_state.specs.Standing.{stand_of};
 ghost use Rattle.view_waits.specs.Offers.{offered_line};
 ghost use Rattle.view_json.specs.Choices.{next_line};
-ghost use Rattle.view_json.specs.Known.{Knows, IsSeen, alike, whole_text};
+ghost use Rattle.view_json.specs.Known.{Knows, IsSeen, alike, whole_text, is_deal, has_deal, deals_at};
 
 use crate::actor::{actor, line_at_seat};
 use pml_program::program::{Action, Basic};
@@ -54,7 +55,9 @@ impl Known {
 }
 
 // Whether an action sends or receives.
-fn is_deal(action: &Action<'_>) -> bool {
+fn is_deal(action: &Action<'_>) -> bool
+    ensures { result ≡ is_deal action.now }
+{
     match action {
         Action::Send(_, _, _) => true,
         Action::Receive(_, _, _, _) => true,
@@ -63,7 +66,9 @@ fn is_deal(action: &Action<'_>) -> bool {
 }
 
 // Whether a statement sends or receives.
-fn deals(basic: Option<&Basic<'_>>) -> bool {
+fn deals(basic: Option<&Basic<'_>>) -> bool
+    ensures { result ≡ has_deal (option_copied basic.entry) }
+{
     match basic {
         Some(Basic::Plain(action)) => is_deal(action),
         _ => false,
@@ -76,6 +81,7 @@ fn seen_from<'p>(live: &Live<'p, '_>, seat: Seat, pick: Pick) -> Seen<'p>
     ensures line { result.line ≡ offered_line live.now.state pick }
     ensures text { result.text.now ≡ whole_text live.now.state pick }
     ensures next { result.next ≡ next_line live.now.state pick }
+    ensures deals { result.deals ≡ deals_at live.now.state pick }
 {
     match offer_of(live, pick) {
         Some(offer) => {
@@ -95,6 +101,7 @@ fn nothing<'p>() -> Seen<'p>
     ensures line { result.line ≡ 0 }
     ensures text { result.text.now ≡ [] }
     ensures next { result.next ≡ 0 }
+    ensures deals { result.deals ≡ false }
 {
     Seen {
         line: 0,
@@ -108,6 +115,7 @@ fn seen_in_live<'p>(live: &Live<'p, '_>, pick: Pick) -> Seen<'p>
     ensures line { result.line ≡ offered_line live.now.state pick }
     ensures text { result.text.now ≡ whole_text live.now.state pick }
     ensures next { result.next ≡ next_line live.now.state pick }
+    ensures deals { result.deals ≡ deals_at live.now.state pick }
 {
     match seat_at(live.seats(), pick.process) {
         Some(seat) => seen_from(live, *seat, pick),

@@ -5,7 +5,8 @@ ghost use Rattle.promela_run.specs.declared.moves.Move.TheVariants.{Alone};
 ghost use Rattle.promela_run.specs.State.{State};
 ghost use Rattle.view_json.specs.Choices.{AddsChoice};
 ghost use Rattle.view_json.specs.Known.{IsSeen};
-ghost use Rattle.view_json.specs.Before.{Tells};
+ghost use Rattle.view_json.specs.Before.{Tells, single_alike};
+ghost use Rattle.view_json.specs.Places.{passes_at, place_by, most, place_behind};
 
 use crate::known::{Seen, is_alike, seen_at};
 use crate::single::{Single, add_single};
@@ -20,7 +21,9 @@ const MOST: usize = 8;
 const FEW: usize = 64;
 
 /// How many are kept of so many that are to be written.
-pub(crate) fn most_of(count: usize) -> usize {
+pub(crate) fn most_of(count: usize) -> usize
+    ensures { result ≡ most count }
+{
     if count > FEW { MOST } else { 1 }
 }
 
@@ -46,7 +49,9 @@ impl Singles {
 }
 
 // Whether what stands at a place is of the same process, at an offer that is seen so.
-fn is_at(all: &[Single], at: usize, process: usize, seen: Seen<'_>) -> bool {
+fn is_at(all: &[Single], at: usize, process: usize, seen: Seen<'_>) -> bool
+    ensures { result ≡ passes_at (single_alike process seen.entry) all.now at }
+{
     match all.get(at) {
         Some(one) => is_alike(&one.first, process, seen),
         None => false,
@@ -54,7 +59,9 @@ fn is_at(all: &[Single], at: usize, process: usize, seen: Seen<'_>) -> bool {
 }
 
 // The place of a move that is seen so: first that of the last of all is asked.
-fn place_of(all: &[Single], last: usize, process: usize, seen: Seen<'_>) -> Option<usize> {
+fn place_of(all: &[Single], last: usize, process: usize, seen: Seen<'_>) -> Option<usize>
+    ensures { result ≡ place_by (single_alike process seen.entry) all.now last }
+{
     if is_at(all, last, process, seen) {
         return Some(last);
     }
@@ -67,7 +74,9 @@ fn place_of(all: &[Single], last: usize, process: usize, seen: Seen<'_>) -> Opti
 }
 
 /// The place behind another.
-pub(crate) fn behind(at: usize, len: usize) -> usize {
+pub(crate) fn behind(at: usize, len: usize) -> usize
+    ensures { result ≡ place_behind at len }
+{
     if at < len && len - at > 1 { at + 1 } else { 0 }
 }
 

@@ -8,6 +8,7 @@ ghost use Rattle.promela_run.specs.World.{move_text};
 ghost use Rattle.view_tokens.specs.Printed.{Writes};
 ghost use Rattle.view_json.specs.Objects.{text};
 ghost use Rattle.view_json.specs.Texts.{Reads, TellsMove, IsLine, same_parts};
+ghost use Rattle.view_json.specs.Places.{passes_at, place_by};
 
 use crate::known::text_at;
 use crate::objects::whole;
@@ -224,7 +225,9 @@ impl Lines {
 }
 
 // Whether what stands at a place has these parts.
-fn is_at(all: &[Line], at: usize, parts: &Parts<'_>) -> bool {
+fn is_at(all: &[Line], at: usize, parts: &Parts<'_>) -> bool
+    ensures { result ≡ passes_at (λ line. same_parts line parts.now) all.now at }
+{
     match all.get(at) {
         Some(line) => are_same(line, parts),
         None => false,
@@ -232,7 +235,9 @@ fn is_at(all: &[Line], at: usize, parts: &Parts<'_>) -> bool {
 }
 
 // The place of a text that has these parts: first that of the last of all is asked.
-fn place_of(all: &[Line], last: usize, parts: &Parts<'_>) -> Option<usize> {
+fn place_of(all: &[Line], last: usize, parts: &Parts<'_>) -> Option<usize>
+    ensures { result ≡ place_by (λ line. same_parts line parts.now) all.now last }
+{
     if is_at(all, last, parts) {
         return Some(last);
     }

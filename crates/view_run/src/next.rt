@@ -33,7 +33,7 @@ pub fn follow<S: Source>(
     replay: &mut Replay<S>,
     limit: usize,
 ) -> Result<Next, Broken>
-    requires { moves.now ≡ world.moves walk.now.state }
+    requires { moves.now ≡ world.world_moves walk.now.state }
 {
     if moves.is_empty() {
         return Ok(Next::End(ending_of(&picture_of(walk.world()))));

@@ -80,7 +80,7 @@ impl<S: Source> Reading<S> {
         moves: &[Move],
         text: &[u8],
     ) -> Result<Answer, Broken>
-        requires all { moves.now ≡ world.moves walk.now.state }
+        requires all { moves.now ≡ world.world_moves walk.now.state }
         requires prompt { text.now ≡ prompt (length moves.now) }
         ensures { let h = ⟦<ThreeDevices<S, BadLines, Nowhere> as Devices>⟧.holds in ReadsAnswer result h self.old self.new walk.now.state moves.now }
     {
@@ -154,7 +154,7 @@ impl<S: Source> Replay<S> {
         walk: &Walk<'_, '_>,
         moves: &[Move],
     ) -> Result<Answer, Broken>
-        requires { moves.now ≡ world.moves walk.now.state }
+        requires { moves.now ≡ world.world_moves walk.now.state }
     {
         match self {
             Replay::Along(along, _) => Ok(said_along(*along, walk.next())),

@@ -8,7 +8,7 @@ use Rattle.promela_session.specs.Session.{Goes, Faults}
 use Rattle.pml_program.specs.declared.program.Program.{Program}
 use Rattle.promela_run.specs.State.{first_state}
 use Rattle.promela_run.specs.declared.moves.Move.{Move}
-use Rattle.promela_run.specs.World.{Running, moves, step, rules}
+use Rattle.promela_run.specs.World.{Running, world_moves, world_step, rules}
 use Rattle.pml_sim.specs.Lent.{IsFirst}
 use Rattle.view_walk.specs.declared.leg.Leg.{Leg}
 use Rattle.view_walk.specs.Choices.{numbered, chosen, on, with_leg}
@@ -41,16 +41,16 @@ module _ (w : Walked) (h : IsWalk w) (found : w.is_lost ≡ false) where
   next t at = next_leads rules (started w.lossy (first_state w.program)) w.legs w.at t w.state h.last at (h.here found) h.whole
 
   -- the next choice is that of a move
-  pub has_move : (t : Leg) → slice_get w.legs w.at ≡ Some t → numbered (moves w.state) t.choice ≡ None → ⊥
+  pub has_move : (t : Leg) → slice_get w.legs w.at ≡ Some t → numbered (world_moves w.state) t.choice ≡ None → ⊥
   has_move t at none = let n = next t at in let c = chosen_is rules w.state t n.0 n.1 in none-some c.0 (sym none ∙ c.1)
 
   -- whose step is no fault
-  pub has_no_fault : (t : Leg) (m : Move) (f : Fault) → slice_get w.legs w.at ≡ Some t → numbered (moves w.state) t.choice ≡ Some m → step w.state m ≡ Faults f → ⊥
+  pub has_no_fault : (t : Leg) (m : Move) (f : Fault) → slice_get w.legs w.at ≡ Some t → numbered (world_moves w.state) t.choice ≡ Some m → world_step w.state m ≡ Faults f → ⊥
   has_no_fault t m f at number faults = let n = next t at in no_fault rules w.state t m n.0 f n.1 number faults
 
   -- and leads on
-  pub stepped : (t : Leg) (m : Move) (u : Running) (printed : List ℕ) → slice_get w.legs w.at ≡ Some t → numbered (moves w.state) t.choice ≡ Some m
-      → step w.state m ≡ Goes u printed → IsWalk (record w { at = w.at + 1; state = u })
+  pub stepped : (t : Leg) (m : Move) (u : Running) (printed : List ℕ) → slice_get w.legs w.at ≡ Some t → numbered (world_moves w.state) t.choice ≡ Some m
+      → world_step w.state m ≡ Goes u printed → IsWalk (record w { at = w.at + 1; state = u })
   stepped t m u printed at number goes =
       let n = next t at in
       let c = choice_counts rules w.state t n.0 n.1 in
@@ -59,10 +59,10 @@ module _ (w : Walked) (h : IsWalk w) (found : w.is_lost ≡ false) where
       record { within = l.within; last = l.last; whole = l.whole; here = λ _. l.here }
 
   -- a choice leads on
-  pub turned : (k : ℕ) (m : Move) (u : Running) (printed : List ℕ) → numbered (moves w.state) k ≡ Some m → step w.state m ≡ Goes u printed
-      → IsWalk (record w { legs = with_leg w.legs w.at (record { choice = k; of = length (moves w.state) }); at = w.at + 1; state = u })
+  pub turned : (k : ℕ) (m : Move) (u : Running) (printed : List ℕ) → numbered (world_moves w.state) k ≡ Some m → world_step w.state m ≡ Goes u printed
+      → IsWalk (record w { legs = with_leg w.legs w.at (record { choice = k; of = length (world_moves w.state) }); at = w.at + 1; state = u })
   turned k m u printed number goes =
-      let t : Leg = record { choice = k; of = length (moves w.state) } in
+      let t : Leg = record { choice = k; of = length (world_moves w.state) } in
       let is = is_chosen rules w.state t m u printed refl number goes in
       let l = leg_leads rules (started w.lossy (first_state w.program)) w.legs w.at t w.state u (h.here found) is h.last h.whole h.within in
       record { within = l.within; last = l.last; whole = l.whole; here = λ _. l.here }

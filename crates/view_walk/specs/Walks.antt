@@ -3,7 +3,7 @@ use Rattle.std.specs.Prelude.{◌≡◌, ◌≤◌, ℕ, Bool, false, List, leng
 use Rattle.diagnostics.specs.declared.fault.Fault.{Fault}
 use Rattle.pml_program.specs.declared.program.Program.{Program}
 use Rattle.promela_run.specs.State.{State, first_state}
-use Rattle.promela_run.specs.World.{Running, first, moves, rules}
+use Rattle.promela_run.specs.World.{Running, first, world_moves, rules}
 use Rattle.view_walk.specs.declared.leg.Leg.{Leg}
 use Rattle.view_walk.specs.Choices.{led_from, with_leg}
 
@@ -44,4 +44,4 @@ pub record StandsAs (old new : Walked) : Type 0 where
 
 -- the choices of a walk behind the one with this number
 abbrev pub legs_behind : Walked → ℕ → List Leg
-legs_behind w k = with_leg w.legs w.at (record { choice = k; of = length (moves w.state) })
+legs_behind w k = with_leg w.legs w.at (record { choice = k; of = length (world_moves w.state) })

@@ -2,7 +2,7 @@
 
 ghost use Rattle.std.specs.Prelude.{◌≡◌, ◌+◌, ◌<◌, ◌≤◌, [], true, false, IfOk, OnOk, OnErr, length, take, slice_get, vec_len, vec_capacity};
 ghost use Rattle.diagnostics.specs.declared.fault.Fault.{Fault};
-ghost use Rattle.promela_run.specs.World.{moves};
+ghost use Rattle.promela_run.specs.World.{world_moves};
 ghost use Rattle.view_walk.specs.Choices.{numbered, with_leg};
 ghost use Rattle.view_walk.specs.Walks.{legs_behind, SameModel, StandsAs};
 ghost use Rattle.view_walk.specs.declared.walk.Went.TheVariants.{On, Faults, Nowhere};
@@ -148,7 +148,7 @@ impl<'p, 'a> Walk<'p, 'a> {
 
     /// The moves of the state where it stands.
     pub fn moves(&self) -> Result<Vec<Move>, AllocError>
-        ensures { IfOk result (λ v. v.items ≡ moves self.now.state) }
+        ensures { IfOk result (λ v. v.items ≡ world_moves self.now.state) }
     {
         self.world.moves()
     }

@@ -6,7 +6,7 @@ use Rattle.std.proofs.lemmas.Option.{same_Some}
 use Rattle.std.proofs.Math.Seq.{take-append_seam}
 use Rattle.pml_program.specs.declared.program.Program.{Program}
 use Rattle.promela_run.specs.State.{first_state}
-use Rattle.promela_run.specs.World.{Running, moves, rules}
+use Rattle.promela_run.specs.World.{Running, world_moves, rules}
 use Rattle.view_walk.specs.declared.leg.Leg.{Leg}
 use Rattle.view_walk.specs.Choices.{with_leg, is_leg, led_from}
 use Rattle.view_walk.specs.Walks.{Walked, IsWalk, walked, started, legs_behind}
@@ -36,7 +36,7 @@ cut_either false n ts t h = cut_again n ts t h
 
 -- the choice with this number, where a walk stands
 abbrev chosen_at : Walked → ℕ → Leg
-chosen_at v k = record { choice = k; of = length (moves v.state) }
+chosen_at v k = record { choice = k; of = length (world_moves v.state) }
 
 module _ (v w : Walked) (k : ℕ) (hv : IsWalk v) (hw : IsWalk w) (b : IsBack v k w) where
   choices_stand : take w.at w.legs ≡ take v.at v.legs

@@ -25,10 +25,10 @@ use Rattle.promela_process.specs.Numbers.{clipped, is_zero, wrapped}
 use Rattle.promela_process.specs.Offers.{Offer}
 use Rattle.promela_process.specs.declared.sought.Sought.{Sought}
 use Rattle.promela_run.specs.Lines.{name_of_number, printed}
-use Rattle.promela_run.specs.Moves.{Message, Named, accepts_on, can_receive, can_send, each, else_moves, is_else, is_some, last, message_on, only_if, or_else, or_fault, pick, with_fields as moves-with_fields}
-use Rattle.promela_run.specs.State.{Stand, State, begins_at, body_of, channel_at, empty_channel, first_control, joined, leaf, levels, levels_in, nothing, picked, read_in, reads, size, unread, variables_at, with_channel, with_frame, with_value, with_values}
-use Rattle.promela_run.specs.Statements.{Received, changed, channels_of, stores, taken_at, with_arguments, with_fields, with_message}
-use Rattle.promela_run.specs.Steps.{Done, behind, body_by, both_on, first_of, onward, prints, put_by, quiet, run_number, went, with_received, with_sent, without_youngest}
+use Rattle.promela_run.specs.Moves.{Message, Named, accepts_on, can_receive, can_send, each, else_moves, is_else, is_some, last, message_on, only_if, or_else, or_fault, pick, with_fields}
+use Rattle.promela_run.specs.State.{Stand, State, begins_at, body_of, channel_at, empty_channel, first_control, leaf, levels, levels_in, nothing, picked, read_in, reads, size, unread, variables_at, with_channel, with_frame, with_value, with_values, youngest_joined}
+use Rattle.promela_run.specs.Statements.{Received, changed, channels_made, place_with_fields, stores, taken_at, with_arguments, with_message}
+use Rattle.promela_run.specs.Steps.{Done, behind_printed, body_by, both_on, first_of, onward, prints, put_by, quiet, run_number, went, with_received, with_sent, without_youngest}
 use Rattle.promela_run.specs.World.{Running, changed_lines, is_valid, led_to, move_text, origin_of, stuck}
 use Rattle.promela_run.specs.declared.goes.Goes.{Goes}
 use Rattle.promela_run.specs.declared.live_channel.LiveChannel.{LiveChannel}
@@ -75,7 +75,8 @@ module _ (means : Means) where
 
   abbrev pub state-process_begun : Program → ℕ → State → Result State Fault
   state-process_begun p k now =
-      if nat_lt (length now.stands) MOST_PROCESSES then state-frame_begun p.typedefs (variables_at p k) (joined (begins_at p k) now) else Ok now
+      if nat_lt (length now.stands) MOST_PROCESSES then state-frame_begun p.typedefs (variables_at p k) (youngest_joined (begins_at p k) now) else
+      Ok now
 
   abbrev pub state-sort_begun : Program → ℕ → ℕ → State → Result State Fault
   state-sort_begun p k zero now = Ok now
@@ -88,21 +89,21 @@ module _ (means : Means) where
   abbrev pub state-first_state : Program → Result State Fault
   state-first_state p = state-frame_begun p.typedefs p.globals (nothing p) >>= state-sorts_begun p 0 p.proctypes
 
-  abbrev pub statement-named : List LiveChannel → Reading → Target → ℕ → Result ℕ Fault
-  statement-named cs r t count = means.place t r >>= λ at. with_fields count (r.holds at) (channel_at cs (r.holds at))
+  abbrev pub statement-place_named : List LiveChannel → Reading → Target → ℕ → Result ℕ Fault
+  statement-place_named cs r t count = means.place t r >>= λ at. place_with_fields count (r.holds at) (channel_at cs (r.holds at))
 
   abbrev pub statement-values : List Expr → Reading → Result (List ℤ) Fault
   statement-values [] r = Ok []
   statement-values (e ∷ es) r = means.val e r >>= λ v. statement-values es r >>= λ vs. Ok (v ∷ vs)
 
   abbrev pub statement-addressed : List LiveChannel → Reading → Target → List Expr → Result (ℕ × List ℤ) Fault
-  statement-addressed cs r t es = statement-named cs r t (length es) >>= λ n. statement-values es r >>= λ vs. Ok (n, vs)
+  statement-addressed cs r t es = statement-place_named cs r t (length es) >>= λ n. statement-values es r >>= λ vs. Ok (n, vs)
 
   abbrev pub statement-sent : List LiveChannel → Reading → Target → SendOrder → List Expr → Result (List LiveChannel) Fault
   statement-sent cs r t order es = statement-addressed cs r t es >>= λ m. Ok (changed m.0 (with_message order m.1) cs)
 
   abbrev pub statement-asked_at : List LiveChannel → Reading → Target → List Want → Result (ℕ × List Sought) Fault
-  statement-asked_at cs r t ws = statement-named cs r t (length ws) >>= λ n. value-asked_by ws r >>= λ ss. Ok (n, ss)
+  statement-asked_at cs r t ws = statement-place_named cs r t (length ws) >>= λ n. value-asked_by ws r >>= λ ss. Ok (n, ss)
 
   abbrev pub statement-received : List LiveChannel → Reading → Target → Search → Removal → List Want → Result Received Fault
   statement-received cs r t search how ws = statement-asked_at cs r t ws >>= λ x. Ok (taken_at cs x.0 search how x.1)
@@ -117,23 +118,23 @@ module _ (means : Means) where
   statement-goes_to None v r = Ok None
   statement-goes_to (Some t) v r = statement-goes t v r >>= λ g. Ok (Some g)
 
-  abbrev pub statement-counted : Target → ℤ → Reading → Result (Option Goes) Fault
-  statement-counted t by r = means.place t r >>= λ p. statement-goes_to (Some t) (wrapped (r.holds p +ℤ by)) r
+  abbrev pub statement-increased : Target → ℤ → Reading → Result (Option Goes) Fault
+  statement-increased t by r = means.place t r >>= λ p. statement-goes_to (Some t) (wrapped (r.holds p +ℤ by)) r
 
   abbrev pub statement-outcome : Action → Reading → Result (Option Goes) Fault
   statement-outcome (actions.Assign t v) r = means.val v r >>= λ n. statement-goes_to t n r
-  statement-outcome (actions.Increment t) r = statement-counted t (pos 1) r
-  statement-outcome (actions.Decrement t) r = statement-counted t (negsuc 0) r
+  statement-outcome (actions.Increment t) r = statement-increased t (pos 1) r
+  statement-outcome (actions.Decrement t) r = statement-increased t (negsuc 0) r
   statement-outcome (actions.Holds v) r = means.val v r >>= λ n. Ok None
   statement-outcome s r = Ok None
 
   abbrev pub statement-created : List Fields → Stand → List Slot → List ℤ → State → Result State Fault
   statement-created ts y ss vs now =
-      if nat_lt MOST_CHANNELS (length now.channels + channels_of ts ss) then Err TooManyChannels
-      else state-variables_begun ts ss 0 (with_arguments 0 ss vs (with_frame ss (joined y now)))
+      if nat_lt MOST_CHANNELS (length now.channels + channels_made ts ss) then Err TooManyChannels
+      else state-variables_begun ts ss 0 (with_arguments 0 ss vs (with_frame ss (youngest_joined y now)))
 
   abbrev pub moves-named : List LiveChannel → Reading → Target → ℕ → Result Named Fault
-  moves-named cs r t count = means.place t r >>= λ at. moves-with_fields count (r.holds at) (channel_at cs (r.holds at))
+  moves-named cs r t count = means.place t r >>= λ at. with_fields count (r.holds at) (channel_at cs (r.holds at))
 
   abbrev pub moves-ready : Bool → List LiveChannel → Reading → Bool → Action → Result Bool Fault
   moves-ready lossy cs r in_d_step (actions.Holds e) = means.val e r >>= λ n. Ok (not (is_zero n))
@@ -246,7 +247,7 @@ module _ (means : Means) where
   steps-within (suc n) s p t b c =
       first_of (moves-choices s.lossy s.channels (reads s p t) (levels b c)) (λ o.
       steps-effect s p t o.basic >>= λ d.
-      onward o.stays d (λ e. steps-within n e.state p false b o.next >>= behind e.printed))
+      onward o.stays d (λ e. steps-within n e.state p false b o.next >>= behind_printed e.printed))
 
   abbrev pub steps-within_from : ℕ → State → ℕ → Bool → Option Seq → Option Control → Result Done Fault
   steps-within_from most s p t (Some b) (Some c) = steps-within most s p t b c
@@ -269,21 +270,21 @@ module _ (means : Means) where
       steps-passed (reads s j.process t) (moves-message s.channels (reads s k.process t) o.basic) w.basic >>= both_on s k.process j.process o w
   steps-paired s k j t o w = quiet s
 
-  abbrev pub steps-step : ℕ → State → Move → Result Done Fault
-  steps-step most s (Death p) = quiet (without_youngest s)
-  steps-step most s (Alone k t) = steps-alone most s k t (picked s k)
-  steps-step most s (Pair k j t) = steps-paired s k j t (picked s k) (picked s j)
+  abbrev pub steps-after_move : ℕ → State → Move → Result Done Fault
+  steps-after_move most s (Death p) = quiet (without_youngest s)
+  steps-after_move most s (Alone k t) = steps-alone most s k t (picked s k)
+  steps-after_move most s (Pair k j t) = steps-paired s k j t (picked s k) (picked s j)
 
-  abbrev pub world-moves : Running → List Move
-  world-moves w = option_map_or (λ h. []) w.halt (moves-moves w.state)
+  abbrev pub world-world_moves : Running → List Move
+  world-world_moves w = option_map_or (λ h. []) w.halt (moves-moves w.state)
 
-  abbrev pub world-step : Running → Move → Outcome Running
-  world-step w m = led_to w.state.frames (steps-step MOST_DSTEP_STATEMENTS w.state m)
+  abbrev pub world-world_step : Running → Move → Outcome Running
+  world-world_step w m = led_to w.state.frames (steps-after_move MOST_DSTEP_STATEMENTS w.state m)
 
   abbrev pub world-rules : Rules Running Move
   world-rules = record {
-    moves = world-moves;
-    step = world-step;
+    moves = world-world_moves;
+    step = world-world_step;
     stopped = λ w. option_map (λ h. record { move = h.at; why = h.why }) w.halt;
     text = λ w m. move_text w.state m;
     origin = λ w m. origin_of w.state m;

@@ -9,7 +9,7 @@ use Rattle.promela_session.specs.declared.ends.Options.{Options}
 use Rattle.promela_session.specs.declared.ends.End.{End}
 use Rattle.promela_session.specs.Lines.{line_within, number_up_to, reply_of, placed_answer, placed_reply, is_header}
 use Rattle.promela_session.specs.Events.{Part, digits_of, all_digits}
-use Rattle.promela_session.specs.Session.{transcript, story, select, answered, stepped, ask, one_line, next_line, one_reply}
+use Rattle.promela_session.specs.Session.{transcript, story, select_move, answered, stepped, ask_for_move, one_line, next_line, one_reply}
 use Rattle.pml_program.specs.declared.expr.Expr.{roll-Expr}
 use Rattle.pml_program.specs.declared.expr.Want.{roll-Want}
 use Rattle.pml_program.specs.declared.expr.Target.{roll-Target, out-Target}
@@ -95,7 +95,7 @@ has_paths p steps xs are = paths-are p steps ∙ are
 -- ---- what a run computes with
 
 unfoldable pub session_computes : Unit {0}
-unfolding story select answered stepped ask one_line next_line one_reply line_within number_up_to reply_of placed_answer placed_reply is_header digits_of all_digits digits
+unfolding story select_move answered stepped ask_for_move one_line next_line one_reply line_within number_up_to reply_of placed_answer placed_reply is_header digits_of all_digits digits
 session_computes = tt
 
 unfoldable pub expression_computes : Unit {0}

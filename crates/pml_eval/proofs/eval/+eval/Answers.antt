@@ -1,6 +1,6 @@
 use Rattle.std.proofs.Common.{rules, ◌≡◌, ◌<◌, true, false, Ok, List, [], length, get_or, ℤ, pos, w32, to_z, of_z, FitsSigned, ◌∙◌, sym, ap}
 use Rattle.std.proofs.lemmas.Int.{to_z-of_z}
-use Rattle.promela_process.specs.Expressions.{want, matched, taken}
+use Rattle.promela_process.specs.Expressions.{want, matched, matches_field}
 use Rattle.pml_eval.specs.Asking.{messages_of}
 use Rattle.pml_eval.proofs.Asking.{Rest-next, wants-length, match-next}
 use Rattle.pml_eval.proofs.Matching.{matched-length}
@@ -25,5 +25,5 @@ fits-loop-i-preserved g t c ws =
     let l : c.loop-i.i < length c.args.arguments.now = search rules in
     let k : c.loop-i.i < length c.args.fields.now = search rules in
     let e : want c.index-arguments-i.result (g.G.Ground.reading c.args.ground.now) ≡ Ok c.in_ok-one.one = search rules in
-    let taken-here : taken c.in_ok-one.one (get_or c.args.fields.now c.loop-i.i (pos 0)) ≡ true = search rules in
+    let taken-here : matches_field c.in_ok-one.one (get_or c.args.fields.now c.loop-i.i (pos 0)) ≡ true = search rules in
     Rest-next _ _ _ _ _ _ c.in_ok-one.one l k (rw c.index-arguments-i.is at e) taken-here (c.loop-i.invariant ws)

@@ -1,6 +1,6 @@
 use Rattle.std.proofs.Common.{◌≡◌, ◌<◌, List, Ok, map, drop}
 use Rattle.promela_process.specs.declared.sought.Sought.{Sought}
-use Rattle.promela_process.specs.Expressions.{cells_of, cells, want, wants_of, is_match}
+use Rattle.promela_process.specs.Expressions.{cells_of, turned_by, want, wants_of, is_match}
 use Rattle.pml_eval.specs.Asking.{messages_of, settled}
 use Rattle.pml_eval.proofs.Asking.{Rest}
 use Rattle.pml_eval.proofs.eval.+eval.Given as goal
@@ -10,7 +10,7 @@ abbrev pub invariant-turned-loop-turn : goal.invariant-turned-loop-turn
 invariant-turned-loop-turn g l =
     let r = g.G.Ground.reading l.ground in
     record {
-      same : cells_of (map cells (drop l.turn-index l.turns)) l.whole l.cell r ≡ cells_of (map cells l.turns) l.whole 0 r;
+      same : cells_of (map turned_by (drop l.turn-index l.turns)) l.whole l.cell r ≡ cells_of (map turned_by l.turns) l.whole 0 r;
       there : l.cell < l.whole;
     }
 

@@ -2,7 +2,7 @@ use Rattle.std.proofs.Common.{rules, true, false, ◌≡◌, ◌∙◌, ◌+◌,
 use Rattle.std.proofs.lemmas.List.{length_push, length-take, length-drop}
 use Rattle.std.proofs.lemmas.List.Elements.{All-same, All-push}
 use Rattle.profile.specs.declared.TheConstants.{MOST_REPLACED}
-use Rattle.promela_text.specs.Inlines.{join}
+use Rattle.promela_text.specs.Inlines.{join_given}
 use Rattle.pml_inline.specs.Places.{words_of}
 use Rattle.pml_inline.specs.Texts.{inlines, option_inline, call_within, read_within, AreNumbers, IsReplaced, IsNotReplaced}
 use Rattle.pml_inline.proofs.Steps.{inline_number, number_is, callee_some, none_of, some_of, at_rest, at_range, past-along, after_token, past_open, past_replacement, past_inside, after_call, read_all, read_done, read_past, on_true, inner, replaced_here, popped}
@@ -105,8 +105,8 @@ returns-then-not-branch-clause-read t c =
     replaced_here text c.args.known outer c.deref.result.now number (c.loop-at.at + 2) m (MOST_REPLACED - c.loop-at.given.count) ps places d (c.deref.ensures.value ∙ c.loop-at.invariant.same)
     (some_of _ _ _ _ c.in-Some-2.is (c.in_ok-replaced-in-Some.ensures c.args.known d (number_is text number c.in-Some.ensures.within))) in
     let len : c.len.result ≡ length places = c.len.ensures ∙ c.in-Some-2.replaced.ok.0 in
-    let call : call_within text c.args.known outer d (words_of ts (take m (drop (c.loop-at.at + 2) ps))) ≡ join (Some (record { tokens = []; count = c.len.result })) (read_within text c.args.known (outer ++ number ∷ []) places) =
-    rep.is ∙ ap (λ (n : ℕ). join (Some (record { tokens = []; count = n })) (read_within text c.args.known (outer ++ number ∷ []) places)) (sym len) in
+    let call : call_within text c.args.known outer d (words_of ts (take m (drop (c.loop-at.at + 2) ps))) ≡ join_given (Some (record { tokens = []; count = c.len.result })) (read_within text c.args.known (outer ++ number ∷ []) places) =
+    rep.is ∙ ap (λ (n : ℕ). join_given (Some (record { tokens = []; count = n })) (read_within text c.args.known (outer ++ number ∷ []) places)) (sym len) in
     let same : read_within text c.args.known c.push-in-Some.new.self.items c.deref-in-Some.result.now ≡ read_within text c.args.known (outer ++ number ∷ []) places =
     inner text c.args.known outer c.loop-at.active.items c.push-in-Some.new.self.items number places c.deref-in-Some.result.now c.loop-at.invariant.same c.in_ok-push-in-Some.ensures.items c.deref-in-Some.ensures.value in
     let here = callee_some text number c.callee.result _ c.callee.ensures.value c.in-Some.is c.in-Some.ensures.within in
@@ -115,7 +115,7 @@ returns-then-not-branch-clause-read t c =
     let past = read_past _ _ _ _ undone c.in_ok-read-in-Some.ensures.read in
     past-along _ _ c.loop-at.invariant.here
     (past_inside (take c.args.known (inlines text)) (call_within text c.args.known outer) ts ps c.loop-at.at c.loop-at-test.true c.loop-at.given.tokens.items c.loop-at.given.count d m c.len.result (read_within text c.args.known (outer ++ number ∷ []) places) here closes call
-    (past-along _ _ (ap (join (Some (record { tokens = c.loop-at.given.tokens.items; count = c.loop-at.given.count + c.len.result }))) same) past))
+    (past-along _ _ (ap (join_given (Some (record { tokens = c.loop-at.given.tokens.items; count = c.loop-at.given.count + c.len.result }))) same) past))
 
 pub loop-at-preserved : goal.loop-at-preserved
 loop-at-preserved t c =
@@ -131,16 +131,16 @@ loop-at-preserved t c =
     replaced_here text c.args.known outer c.deref.result.now number (c.loop-at.at + 2) m (MOST_REPLACED - c.loop-at.given.count) ps places d (c.deref.ensures.value ∙ c.loop-at.invariant.same)
     (some_of _ _ _ _ c.in-Some-2.is (c.in_ok-replaced-in-Some.ensures c.args.known d (number_is text number c.in-Some.ensures.within))) in
     let len : c.len.result ≡ length places = c.len.ensures ∙ c.in-Some-2.replaced.ok.0 in
-    let call : call_within text c.args.known outer d (words_of ts (take m (drop (c.loop-at.at + 2) ps))) ≡ join (Some (record { tokens = []; count = c.len.result })) (read_within text c.args.known (outer ++ number ∷ []) places) =
-    rep.is ∙ ap (λ (n : ℕ). join (Some (record { tokens = []; count = n })) (read_within text c.args.known (outer ++ number ∷ []) places)) (sym len) in
+    let call : call_within text c.args.known outer d (words_of ts (take m (drop (c.loop-at.at + 2) ps))) ≡ join_given (Some (record { tokens = []; count = c.len.result })) (read_within text c.args.known (outer ++ number ∷ []) places) =
+    rep.is ∙ ap (λ (n : ℕ). join_given (Some (record { tokens = []; count = n })) (read_within text c.args.known (outer ++ number ∷ []) places)) (sym len) in
     let same : read_within text c.args.known c.push-in-Some.new.self.items c.deref-in-Some.result.now ≡ read_within text c.args.known (outer ++ number ∷ []) places =
     inner text c.args.known outer c.loop-at.active.items c.push-in-Some.new.self.items number places c.deref-in-Some.result.now c.loop-at.invariant.same c.in_ok-push-in-Some.ensures.items c.deref-in-Some.ensures.value in
     let here = callee_some text number c.callee.result _ c.callee.ensures.value c.in-Some.is c.in-Some.ensures.within in
     let closes = at_rest ts ps (c.loop-at.at + 2) c.closing.result c.closing.ensures.value ∙ c.in-Some-closing.is in
     let done : c.in_ok-read-in-Some.field-0 ≡ true = search rules in
     let read = read_done _ _ _ _ done c.in_ok-read-in-Some.ensures.read in
-    let result : join (Some (record { tokens = c.loop-at.given.tokens.items; count = c.loop-at.given.count + c.len.result })) (read_within text c.args.known (outer ++ number ∷ []) places) ≡ Some (record { tokens = c.read.new.given.tokens.items; count = c.read.new.given.count }) =
-    ap (join (Some (record { tokens = c.loop-at.given.tokens.items; count = c.loop-at.given.count + c.len.result }))) (sym same) ∙ read.0 in
+    let result : join_given (Some (record { tokens = c.loop-at.given.tokens.items; count = c.loop-at.given.count + c.len.result })) (read_within text c.args.known (outer ++ number ∷ []) places) ≡ Some (record { tokens = c.read.new.given.tokens.items; count = c.read.new.given.count }) =
+    ap (join_given (Some (record { tokens = c.loop-at.given.tokens.items; count = c.loop-at.given.count + c.len.result }))) (sym same) ∙ read.0 in
     let w : m < length ps - (c.loop-at.at + 2) = let v = simp (length-take, length-drop) at c.in-Some-closing.ensures.within in omega arith in
     record {
       same = popped outer c.loop-at.active.items c.push-in-Some.new.self.items c.read.new.active.items c.pop.new.self.items number c.read.new.active.len c.loop-at.invariant.same c.in_ok-push-in-Some.ensures.items (on_true _ _ done c.in_ok-read-in-Some.ensures.active) c.read.new.active.ok.0 c.pop.ensures.rest;

@@ -4,7 +4,7 @@ use Rattle.std.specs.Borrow.{Bor}
 use Rattle.pml_token.specs.declared.token.Kind.{Kind}
 use Rattle.pml_token.specs.declared.token.Kind.TheVariants.{Name, OpenParen, OpenBrace, CloseBrace}
 use Rattle.pml_token.specs.Word.{same_kind}
-use Rattle.promela_text.specs.Inlines.{has_inline, closing, parameters, listed, all_differ}
+use Rattle.promela_text.specs.Inlines.{has_inline, closing, parameter_names, listed, all_differ}
 use Rattle.pml_inline.specs.Places.{word_at, words_of}
 use Rattle.pml_inline.specs.Parts.{texts_of, places_of, AreNumbered}
 use Rattle.pml_inline.proofs.Steps.{none_of, some_of}
@@ -47,7 +47,7 @@ returns-then-start-tokens c =
     let two : c.same_kind-2.result ≡ true = search rules in
     let paren : same_kind (word_at ts (from + 1)).kind OpenParen ≡ true = ap (λ (k : Kind). same_kind k OpenParen) (sym c.kind_at-2.ensures) ∙ sym c.same_kind-2.ensures ∙ two in
     let names = texts_of c.in-Some.parameters.items in
-    let list : parameters (drop (from + 2) ts) ≡ Some names = some_of _ _ _ _ c.in-Some.is c.in_ok-parameters.ensures.names in
+    let list : parameter_names (drop (from + 2) ts) ≡ Some names = some_of _ _ _ _ c.in-Some.is c.in_ok-parameters.ensures.names in
     let count : c.len.result ≡ length names = c.len.ensures ∙ c.in-Some.parameters.ok.0 ∙ sym (length-map c.in-Some.parameters.items (λ (n : Bor (List ℕ)). n.now)) in
     let start = from + 2 + c.listed.result in
     let begin : start ≡ from + 2 + listed names = ap (λ n. from + 2 + n) (listed-code c.listed.result c.len.result names count c.listed.ensures) in
@@ -62,7 +62,7 @@ returns-then-not-same_kind-3 c =
     let two : c.same_kind-2.result ≡ true = search rules in
     let paren : same_kind (word_at ts (from + 1)).kind OpenParen ≡ true = ap (λ (k : Kind). same_kind k OpenParen) (sym c.kind_at-2.ensures) ∙ sym c.same_kind-2.ensures ∙ two in
     let names = texts_of c.in-Some.parameters.items in
-    let list : parameters (drop (from + 2) ts) ≡ Some names = some_of _ _ _ _ c.in-Some.is c.in_ok-parameters.ensures.names in
+    let list : parameter_names (drop (from + 2) ts) ≡ Some names = some_of _ _ _ _ c.in-Some.is c.in_ok-parameters.ensures.names in
     let count : c.len.result ≡ length names = c.len.ensures ∙ c.in-Some.parameters.ok.0 ∙ sym (length-map c.in-Some.parameters.items (λ (n : Bor (List ℕ)). n.now)) in
     let start = from + 2 + c.listed.result in
     let begin : start ≡ from + 2 + listed names = ap (λ n. from + 2 + n) (listed-code c.listed.result c.len.result names count c.listed.ensures) in
@@ -78,7 +78,7 @@ returns-in_default-closing c =
     let two : c.same_kind-2.result ≡ true = search rules in
     let paren : same_kind (word_at ts (from + 1)).kind OpenParen ≡ true = ap (λ (k : Kind). same_kind k OpenParen) (sym c.kind_at-2.ensures) ∙ sym c.same_kind-2.ensures ∙ two in
     let names = texts_of c.in-Some.parameters.items in
-    let list : parameters (drop (from + 2) ts) ≡ Some names = some_of _ _ _ _ c.in-Some.is c.in_ok-parameters.ensures.names in
+    let list : parameter_names (drop (from + 2) ts) ≡ Some names = some_of _ _ _ _ c.in-Some.is c.in_ok-parameters.ensures.names in
     let count : c.len.result ≡ length names = c.len.ensures ∙ c.in-Some.parameters.ok.0 ∙ sym (length-map c.in-Some.parameters.items (λ (n : Bor (List ℕ)). n.now)) in
     let start = from + 2 + c.listed.result in
     let begin : start ≡ from + 2 + listed names = ap (λ n. from + 2 + n) (listed-code c.listed.result c.len.result names count c.listed.ensures) in
@@ -95,7 +95,7 @@ returns-then-has_inline c =
     let two : c.same_kind-2.result ≡ true = search rules in
     let paren : same_kind (word_at ts (from + 1)).kind OpenParen ≡ true = ap (λ (k : Kind). same_kind k OpenParen) (sym c.kind_at-2.ensures) ∙ sym c.same_kind-2.ensures ∙ two in
     let names = texts_of c.in-Some.parameters.items in
-    let list : parameters (drop (from + 2) ts) ≡ Some names = some_of _ _ _ _ c.in-Some.is c.in_ok-parameters.ensures.names in
+    let list : parameter_names (drop (from + 2) ts) ≡ Some names = some_of _ _ _ _ c.in-Some.is c.in_ok-parameters.ensures.names in
     let count : c.len.result ≡ length names = c.len.ensures ∙ c.in-Some.parameters.ok.0 ∙ sym (length-map c.in-Some.parameters.items (λ (n : Bor (List ℕ)). n.now)) in
     let start = from + 2 + c.listed.result in
     let begin : start ≡ from + 2 + listed names = ap (λ n. from + 2 + n) (listed-code c.listed.result c.len.result names count c.listed.ensures) in
@@ -114,7 +114,7 @@ returns-in_default-2 c =
     let two : c.same_kind-2.result ≡ true = search rules in
     let paren : same_kind (word_at ts (from + 1)).kind OpenParen ≡ true = ap (λ (k : Kind). same_kind k OpenParen) (sym c.kind_at-2.ensures) ∙ sym c.same_kind-2.ensures ∙ two in
     let names = texts_of c.in-Some.parameters.items in
-    let list : parameters (drop (from + 2) ts) ≡ Some names = some_of _ _ _ _ c.in-Some.is c.in_ok-parameters.ensures.names in
+    let list : parameter_names (drop (from + 2) ts) ≡ Some names = some_of _ _ _ _ c.in-Some.is c.in_ok-parameters.ensures.names in
     let count : c.len.result ≡ length names = c.len.ensures ∙ c.in-Some.parameters.ok.0 ∙ sym (length-map c.in-Some.parameters.items (λ (n : Bor (List ℕ)). n.now)) in
     let start = from + 2 + c.listed.result in
     let begin : start ≡ from + 2 + listed names = ap (λ n. from + 2 + n) (listed-code c.listed.result c.len.result names count c.listed.ensures) in
@@ -133,7 +133,7 @@ returns c =
     let two : c.same_kind-2.result ≡ true = search rules in
     let paren : same_kind (word_at ts (from + 1)).kind OpenParen ≡ true = ap (λ (k : Kind). same_kind k OpenParen) (sym c.kind_at-2.ensures) ∙ sym c.same_kind-2.ensures ∙ two in
     let names = texts_of c.in-Some.parameters.items in
-    let list : parameters (drop (from + 2) ts) ≡ Some names = some_of _ _ _ _ c.in-Some.is c.in_ok-parameters.ensures.names in
+    let list : parameter_names (drop (from + 2) ts) ≡ Some names = some_of _ _ _ _ c.in-Some.is c.in_ok-parameters.ensures.names in
     let count : c.len.result ≡ length names = c.len.ensures ∙ c.in-Some.parameters.ok.0 ∙ sym (length-map c.in-Some.parameters.items (λ (n : Bor (List ℕ)). n.now)) in
     let start = from + 2 + c.listed.result in
     let begin : start ≡ from + 2 + listed names = ap (λ n. from + 2 + n) (listed-code c.listed.result c.len.result names count c.listed.ensures) in

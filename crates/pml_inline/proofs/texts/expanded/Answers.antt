@@ -1,7 +1,7 @@
 use Rattle.std.specs.Prelude.{MatchOption}
 use Rattle.std.proofs.Common.{rules, subst, ◌≡◌, ◌∙◌, ◌+◌, ◌<◌, ◌≤◌, ◌++◌, ◌∷◌, [], true, false, Some, None, ap, sym, get_or, take, drop, length, arith}
 use Rattle.std.proofs.lemmas.List.{get_or_default, get_or-map, drop_all, length-map}
-use Rattle.promela_text.specs.Inlines.{is_inline, Inline, join, callee, braces_behind, limited, texts}
+use Rattle.promela_text.specs.Inlines.{is_inline, Inline, join_given, callee, braces_behind, limited, texts}
 use Rattle.pml_inline.specs.Places.{no_word, word_at}
 use Rattle.pml_inline.specs.Parts.{inline_of}
 use Rattle.pml_inline.specs.Texts.{given_of, IsWrongCall, IsReadCall, inlines, option_inline}
@@ -13,7 +13,7 @@ use Rattle.pml_inline.proofs.texts.expanded.Goals as goal
 
 pub loop-at-init : goal.loop-at-init
 loop-at-init c = record {
-  here = ap (λ ts. join (Some (record { tokens = ts; count = 0 })) (texts c.args.text.now.tokens.now [] (inlines c.args.text.now) 0 0)) c.new.ensures.items ∙ nothing-join (texts c.args.text.now.tokens.now [] (inlines c.args.text.now) 0 0);
+  here = ap (λ ts. join_given (Some (record { tokens = ts; count = 0 })) (texts c.args.text.now.tokens.now [] (inlines c.args.text.now) 0 0)) c.new.ensures.items ∙ nothing-join (texts c.args.text.now.tokens.now [] (inlines c.args.text.now) 0 0);
   defined = c.requires.defined;
   few = omega arith;
   braces_fit = omega arith;
@@ -64,7 +64,7 @@ loop-at-preserved-then-is_inline c =
     let none : c.loop-at.braces ≤ 0 = c.if-braces-gt0.false in
     let step = definition_step ts ds known c.loop-at.braces at size no_inline lt inline none few sized c.loop-at.invariant.defined in
     record {
-      here = ap (join (Some (record { tokens = c.loop-at.given.tokens.items; count = c.loop-at.given.count }))) step.0 ∙ c.loop-at.invariant.here;
+      here = ap (join_given (Some (record { tokens = c.loop-at.given.tokens.items; count = c.loop-at.given.count }))) step.0 ∙ c.loop-at.invariant.here;
       defined = step.1;
       few = c.loop-at.invariant.few;
       braces_fit = omega arith;
@@ -85,7 +85,7 @@ loop-at-preserved-in-None c =
     let calls : callee (take known ds) (word_at ts at) (drop (at + 1) ts) ≡ None = whole_callee (take known ds) ts ps at None c.requires.text.whole lt (c.callee.ensures.value ∙ ap (option_inline ds) c.in-None.is) in
     let braces : c.braces_behind-braces.result ≡ braces_behind c.loop-at.braces (word_at ts at) = c.braces_behind-braces.ensures ∙ ap (braces_behind c.loop-at.braces) word in
     record {
-      here = ap (λ n. join (Some (record { tokens = c.push.new.self.items; count = c.loop-at.given.count })) (texts (drop (at + 1) ts) (take known ds) (drop known ds) n 0)) braces
+      here = ap (λ n. join_given (Some (record { tokens = c.push.new.self.items; count = c.loop-at.given.count })) (texts (drop (at + 1) ts) (take known ds) (drop known ds) n 0)) braces
           ∙ text_after_token ts (take known ds) (drop known ds) c.loop-at.braces at lt c.loop-at.given.tokens.items c.loop-at.given.count c.push.new.self.items plain calls
           (c.in_ok-push-in-None.ensures.items ∙ ap (λ w. c.loop-at.given.tokens.items ++ w ∷ []) (c.copied.ensures ∙ word)) ∙ c.loop-at.invariant.here;
       defined = sym (not_defined_at ts at lt plain) ∙ c.loop-at.invariant.defined;

@@ -1,7 +1,7 @@
 use Rattle.std.proofs.Common.{rules, ◌≡◌, ◌∙◌, ◌+◌, ◌-◌, ◌<◌, [], true, false, Some, refl, ap, sym, take, drop, length, arith}
 use Rattle.pml_token.specs.declared.token.Kind.TheVariants.{OpenParen, CloseParen}
 use Rattle.profile.specs.declared.TheConstants.{MOST_CALLS}
-use Rattle.promela_text.specs.Inlines.{has_inline, closing, join, calling, reading}
+use Rattle.promela_text.specs.Inlines.{has_inline, closing, join_given, calling, reading}
 use Rattle.pml_inline.specs.Places.{word_at}
 use Rattle.pml_inline.specs.Texts.{inlines, read_within, given_of}
 use Rattle.pml_inline.proofs.Lists.{over_call}
@@ -51,7 +51,7 @@ returns-then-not-branch c = λ b.
     let past = read_past _ _ _ _ undone c.in_ok-read.ensures.read in
     misread_past _ _ refl
     (text_past_call ts (take known ds) (drop known ds) b at lt before.tokens before.count call.called m call.plain call.is closes clean
-    (past-along _ _ (ap (join (Some before)) alone) past))
+    (past-along _ _ (ap (join_given (Some before)) alone) past))
 
 pub returns : goal.returns
 returns c =
@@ -69,7 +69,7 @@ returns c =
     let alone : read_within text known c.new-active.result.items (take (at + 3 + m - at) (drop at text.places.now)) ≡ reading (take known ds) (calling (take known ds) MOST_CALLS []) (take (m + 3) (drop at ts)) 0 = read_alone text known c.new-active.result.items at m c.new-active.ensures.items c.requires.text.whole in
     let done : c.in_ok-read.field-0 ≡ true = search rules in
     let read = read_done _ _ _ _ done c.in_ok-read.ensures.read in
-    let result : join (Some before) (reading (take known ds) (calling (take known ds) MOST_CALLS []) (take (m + 3) (drop at ts)) 0) ≡ Some (given_of c.read.new.given) = ap (join (Some before)) (sym alone) ∙ read.0 in
+    let result : join_given (Some before) (reading (take known ds) (calling (take known ds) MOST_CALLS []) (take (m + 3) (drop at ts)) 0) ≡ Some (given_of c.read.new.given) = ap (join_given (Some before)) (sym alone) ∙ read.0 in
     record {
       here = λ b. text_after_call ts (take known ds) (drop known ds) b at lt before.tokens before.count call.called m (given_of c.read.new.given) call.plain call.is closes clean result;
       defined = sym (over_call ts at m lt call.plain (callee-begins (take known ds) (word_at ts at) (drop (at + 1) ts) call.called call.is) closes clean);

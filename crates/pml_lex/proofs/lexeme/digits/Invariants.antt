@@ -1,6 +1,6 @@
 use Rattle.std.proofs.Common.{◌≡◌, ◌+◌, ◌-◌, ◌≤◌, length, drop}
 use Rattle.std.specs.List.{prefix_len}
-use Rattle.promela_text.specs.Tokens.{is_digit}
+use Rattle.profile.specs.Characters.{is_digit}
 use Rattle.pml_lex.proofs.lexeme.digits.Given as goal
 
 abbrev pub invariant-loop-end : goal.invariant-loop-end

@@ -4,4 +4,4 @@ use Rattle.pml_sim.proofs.Leading.{leads_back}
 use Rattle.pml_sim.proofs.laws.steps_lead_back.Goals as goal
 
 pub returns : goal.returns
-returns c s t m printed = leads_back s.state.frames (outcome.step MOST_DSTEP_STATEMENTS s.state m) t printed
+returns c s t m printed = leads_back s.state.frames (outcome.after_move MOST_DSTEP_STATEMENTS s.state m) t printed

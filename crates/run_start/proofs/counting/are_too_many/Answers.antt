@@ -1,5 +1,5 @@
 use Rattle.std.proofs.Common.{◌≡◌, ◌+◌, min, arith, rules}
-use Rattle.promela_run.specs.Statements.{channels_by, channels_of}
+use Rattle.promela_run.specs.Statements.{channels_by, channels_made}
 use Rattle.run_start.proofs.Counted.{variable_counted, too_many, none_left}
 use Rattle.run_start.proofs.counting.are_too_many.Goals as goal
 
@@ -15,4 +15,4 @@ loop-slot-preserved c =
 pub returns : goal.returns
 returns c =
     let n = none_left c.args.beginnings.now.typedefs c.args.slots.now c.loop-slot.slot-index c.loop-slot-test.false in
-    too_many c.loop-slot.count (c.args.live + channels_of c.args.beginnings.now.typedefs c.args.slots.now) (omega (arith, n, c.loop-slot.invariant.same))
+    too_many c.loop-slot.count (c.args.live + channels_made c.args.beginnings.now.typedefs c.args.slots.now) (omega (arith, n, c.loop-slot.invariant.same))

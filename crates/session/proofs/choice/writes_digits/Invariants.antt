@@ -1,6 +1,7 @@
 use Rattle.std.proofs.Common.{◌≡◌, ◌+◌, min, take, true}
 use Rattle.std.specs.List.{list_all}
-use Rattle.promela_session.specs.Lines.{is_digit, number_of}
+use Rattle.profile.specs.Characters.{is_digit}
+use Rattle.promela_session.specs.Lines.{number_of}
 use Rattle.session.proofs.choice.writes_digits.Given as goal
 
 abbrev pub invariant-loop-b : goal.invariant-loop-b

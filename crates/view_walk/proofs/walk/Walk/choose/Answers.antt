@@ -1,7 +1,7 @@
 -- The choice leads from the state where the walk stands to the one behind it.
 use Rattle.std.proofs.Common.{◌≡◌, ◌∙◌, ap, sym, subst, ℕ, ◌+◌, List, length}
 use Rattle.promela_run.specs.declared.moves.Move.{Move}
-use Rattle.promela_run.specs.World.{moves}
+use Rattle.promela_run.specs.World.{world_moves}
 use Rattle.view_walk.specs.declared.leg.Leg.{Leg}
 use Rattle.view_walk.specs.Choices.{numbered, with_leg}
 use Rattle.view_walk.specs.Walks.{Walked, IsWalk}
@@ -14,8 +14,8 @@ invariant_of-self-in-Ok c =
     let found = ap (λ (v : Walked). v.is_lost) c.self.view_is ∙ c.requires.found in
     let listed = c.as_slice.ensures.value ∙ c.in_ok-moves.ensures in
     let number = ap (λ (ms : List Move). numbered ms c.args.choice) (sym listed) ∙ sym c.move_at.ensures ∙ c.in-Some.is in
-    let taken = c.in-Ok.ensures.step (numbered_there (moves c.self.inside.world) c.args.choice c.in-Some.m number) in
-    let of : c.len-of.result ≡ length (moves c.self.inside.world) = c.len-of.ensures ∙ sym c.as_slice.ensures.len ∙ ap length listed in
+    let taken = c.in-Ok.ensures.step (numbered_there (world_moves c.self.inside.world) c.args.choice c.in-Some.m number) in
+    let of : c.len-of.result ≡ length (world_moves c.self.inside.world) = c.len-of.ensures ∙ sym c.as_slice.ensures.len ∙ ap length listed in
     let legs = c.put.ensures
     ∙ ap (λ (ts : List Leg). with_leg ts c.self.inside.at (record { choice = c.args.choice; of = c.len-of.result })) c.reserve.ensures.items
     ∙ ap (λ (n : ℕ). with_leg c.self.inside.legs.items c.self.inside.at (record { choice = c.args.choice; of = n })) of in

@@ -4,7 +4,7 @@ use Rattle.std.proofs.lemmas.Option.{slice_get_read}
 use Rattle.diagnostics.specs.declared.stop.Stop.{Stop}
 use Rattle.session.specs.Takes.{IsReason}
 use Rattle.promela_run.specs.declared.moves.Move.{Move}
-use Rattle.promela_run.specs.World.{moves, rules}
+use Rattle.promela_run.specs.World.{world_moves, rules}
 use Rattle.view_walk.specs.Choices.{numbered}
 use Rattle.view_walk.specs.Walks.{Walked}
 use Rattle.view_walk.proofs.Leads.{numbered_there}
@@ -24,7 +24,7 @@ pub take-requires : goal.take-requires
 take-requires c =
     let listed = c.as_slice.ensures.value ∙ c.in_ok-moves.ensures in
     let number = ap (λ (ms : List Move). numbered ms c.index-leg.result.now.choice) (sym listed) ∙ sym c.move_at.ensures ∙ c.in-Some.is in
-    record { present = λ going. numbered_there (moves c.self.inside.world) c.index-leg.result.now.choice c.in-Some.m number }
+    record { present = λ going. numbered_there (world_moves c.self.inside.world) c.index-leg.result.now.choice c.in-Some.m number }
 
 pub invariant_of-self : goal.invariant_of-self
 invariant_of-self c =
@@ -33,7 +33,7 @@ invariant_of-self c =
     let at = slice_get_read c.self.inside.legs.items (length c.self.inside.legs.items) c.self.inside.at c.index-leg.result.now refl within c.index-leg.ensures in
     let listed = c.as_slice.ensures.value ∙ c.in_ok-moves.ensures in
     let number = ap (λ (ms : List Move). numbered ms c.index-leg.result.now.choice) (sym listed) ∙ sym c.move_at.ensures ∙ c.in-Some.is in
-    let taken = c.in-Ok.ensures.step (numbered_there (moves c.self.inside.world) c.index-leg.result.now.choice c.in-Some.m number) in
+    let taken = c.in-Ok.ensures.step (numbered_there (world_moves c.self.inside.world) c.index-leg.result.now.choice c.in-Some.m number) in
     stepped _ c.self.invariant found c.index-leg.result.now c.in-Some.m c.take.new.self taken.0 at number taken.1
 
 pub unreachable-requires-in-Err-Fault : goal.unreachable-requires-in-Err-Fault
@@ -43,6 +43,6 @@ unreachable-requires-in-Err-Fault c =
     let at = slice_get_read c.self.inside.legs.items (length c.self.inside.legs.items) c.self.inside.at c.index-leg.result.now refl within c.index-leg.ensures in
     let listed = c.as_slice.ensures.value ∙ c.in_ok-moves.ensures in
     let number = ap (λ (ms : List Move). numbered ms c.index-leg.result.now.choice) (sym listed) ∙ sym c.move_at.ensures ∙ c.in-Some.is in
-    let stopped = c.in-Err-Fault.ensures.step (numbered_there (moves c.self.inside.world) c.index-leg.result.now.choice c.in-Some.m number) in
+    let stopped = c.in-Err-Fault.ensures.step (numbered_there (world_moves c.self.inside.world) c.index-leg.result.now.choice c.in-Some.m number) in
     let faults = subst (λ (e : Stop). IsReason rules c.self.inside.world c.in-Some.m e) c.in-Err-Fault.field-0-is stopped.0 in
     has_no_fault _ c.self.invariant found c.index-leg.result.now c.in-Some.m c.in-Err-Fault.field-0-0 at number faults
