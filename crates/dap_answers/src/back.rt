@@ -7,7 +7,7 @@ use crate::breaks::hit;
 use crate::data::is_changed;
 use crate::debugging::Session;
 use crate::stop::{Stop, stop_here, tell_stop};
-use dap_shown::processes::lines_of;
+use dap_messages::processes::lines_of;
 use std::alloc::AllocError;
 use view_session::seen::picture_of;
 use view_text::writer::Writer;

@@ -3,9 +3,9 @@
 ghost use Rattle.view_text.specs.Written.{Stays};
 
 use dap_messages::fields::{items_at, number_at, text_at};
+use dap_messages::processes::process_of;
+use dap_messages::references::{Shown, shown_by};
 use dap_messages::words::words_of;
-use dap_shown::processes::process_of;
-use dap_shown::references::{Shown, shown_by};
 use pml_sim::world::World;
 use serde_json::{Value, json};
 use std::alloc::{AllocError, Global};

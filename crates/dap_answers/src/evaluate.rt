@@ -1,9 +1,9 @@
 //! Expressions, as a process reads them where it stands: what they are worth has no effect.
 
+use dap_messages::cells::{count_words, messages_of, value_of};
+use dap_messages::channels::add_contents;
+use dap_messages::references::{Shown, reference_of};
 use dap_messages::words::words_of;
-use dap_shown::cells::{count_words, messages_of, value_of};
-use dap_shown::channels::add_contents;
-use dap_shown::references::{Shown, reference_of};
 use promela_process::place::Place;
 use serde_json::{Value, json};
 use std::alloc::{AllocError, Global};

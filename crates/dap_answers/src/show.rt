@@ -2,12 +2,12 @@
 
 use crate::commands::Command;
 use crate::data::info_of as data_info_of;
+use dap_messages::cells::Page;
 use dap_messages::fields::{number_at, text_at};
-use dap_shown::cells::Page;
-use dap_shown::moves::targets_of;
-use dap_shown::processes::{Source, process_of, stack_of, threads_of};
-use dap_shown::references::{Shown, shown_by};
-use dap_shown::variables::{MOST_SHOWN, scopes_of, variables_by};
+use dap_messages::moves::targets_of;
+use dap_messages::processes::{Source, process_of, stack_of, threads_of};
+use dap_messages::references::{Shown, shown_by};
+use dap_messages::variables::{MOST_SHOWN, scopes_of, variables_by};
 use serde_json::{Value, json};
 use std::alloc::{AllocError, Global};
 use view_cells::picture::Picture;

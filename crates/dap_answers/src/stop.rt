@@ -3,8 +3,8 @@
 ghost use Rattle.dap_answers.specs.Sessions.{GoesOn};
 
 use crate::debugging::Session;
+use dap_messages::processes::thread_of;
 use dap_messages::words::words_of;
-use dap_shown::processes::thread_of;
 use serde_json::json;
 use std::alloc::AllocError;
 use view_text::writer::Writer;

@@ -6,9 +6,9 @@ use Rattle.serde_json.specs.View.{view}
 use Rattle.serde_json.specs.declared.value.Value.{Value}
 use Rattle.model_names.specs.Told.{AreMeant}
 use Rattle.serde_json.specs.Data.{Data, null}
-use Rattle.text_places.specs.declared.Unit as counting
+use Rattle.text_parts.specs.declared.places.Unit as counting
 use Rattle.model_names.specs.declared.names.Names.{Names}
-use Rattle.lsp_places.specs.declared.page.Page.{Page}
+use Rattle.lsp_results.specs.declared.page.Page.{Page}
 use Rattle.lsp_answers.specs.declared.documents.Document.{Document}
 use Rattle.lsp_answers.specs.declared.questions.Question.{Question}
 use Rattle.lsp_answers.specs.declared.questions.Question.TheVariants.{Definition, References, Highlights, Hover, Symbols, Target, Rename}

@@ -2,8 +2,8 @@
 use Rattle.std.specs.Prelude.{◌≡◌, ℕ, if◌then◌else◌, List, Option, Some, None, codes}
 use Rattle.std.specs.Str.{bytes_eq}
 use Rattle.serde_json.specs.Data.{Data, null}
-use Rattle.lsp_places.specs.declared.page.Page.{Page}
-use Rattle.lsp_folds.specs.Lines.{AreFolds}
+use Rattle.lsp_results.specs.declared.page.Page.{Page}
+use Rattle.lsp_results.specs.Lines.{AreFolds}
 use Rattle.lsp_answers.specs.declared.colours.Extent.{Extent}
 use Rattle.lsp_answers.specs.declared.aids.Aid.{Aid}
 use Rattle.lsp_answers.specs.declared.aids.Aid.TheVariants.{Colours, Folds, Completion, Signature, Remedies}

@@ -3,12 +3,12 @@ use Rattle.std.specs.Prelude.{◌≡◌, ℕ, if◌then◌else◌, List, length,
 use Rattle.std.specs.Str.{bytes_eq}
 use Rattle.serde_json.specs.Data.{Data, null}
 use Rattle.serde_json.specs.Find.{get}
-use Rattle.text_places.specs.declared.Place.{Place}
-use Rattle.text_places.specs.Offsets.{offset_of}
-use Rattle.lsp_places.specs.declared.page.Page.{Page}
-use Rattle.lsp_places.specs.Asked.{place_in}
-use Rattle.lsp_tokens.specs.declared.colours.Part.{Part}
-use Rattle.lsp_tokens.specs.Told.{AreColours}
+use Rattle.text_parts.specs.declared.places.Place.{Place}
+use Rattle.text_parts.specs.Offsets.{offset_of}
+use Rattle.lsp_results.specs.declared.page.Page.{Page}
+use Rattle.lsp_results.specs.Asked.{place_in}
+use Rattle.lsp_results.specs.declared.colours.Part.{Part}
+use Rattle.lsp_results.specs.Tokens.{AreColours}
 use Rattle.lsp_answers.specs.declared.colours.Extent.{Extent}
 use Rattle.lsp_answers.specs.declared.colours.Extent.TheVariants.{Whole, Range}
 

@@ -2,7 +2,7 @@
 use Rattle.std.specs.Prelude.{◌≡◌, ℕ, Option, Some, codes, option_and_then}
 use Rattle.serde_json.specs.Data.{Data}
 use Rattle.serde_json.specs.Find.{get}
-use Rattle.lsp_places.specs.declared.page.Page.{Page}
+use Rattle.lsp_results.specs.declared.page.Page.{Page}
 use Rattle.lsp_completions.specs.Wishes.{IsCompletion}
 use Rattle.lsp_answers.specs.Questions.{offset_in}
 

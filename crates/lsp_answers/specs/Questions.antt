@@ -4,17 +4,17 @@ use Rattle.std.specs.Option.{option_map_or}
 use Rattle.std.specs.Str.{bytes_eq}
 use Rattle.serde_json.specs.Data.{Data, null}
 use Rattle.serde_json.specs.Find.{get, as_bool}
-use Rattle.text_places.specs.declared.Unit as counting
-use Rattle.text_places.specs.Offsets.{offset_of}
+use Rattle.text_parts.specs.declared.places.Unit as counting
+use Rattle.text_parts.specs.Offsets.{offset_of}
 use Rattle.model_names.specs.declared.names.Names.{Names}
 use Rattle.model_names.specs.Told.{AreMeant}
 use Rattle.model_names.specs.Found.{name_at}
-use Rattle.lsp_places.specs.declared.page.Page.{Page}
-use Rattle.lsp_places.specs.Asked.{place_in, text_in}
-use Rattle.lsp_names.specs.Told.{IsDefinition, AreReferences, AreHighlights}
-use Rattle.lsp_names.specs.Symbols.{symbols_of}
-use Rattle.lsp_names.specs.Hover.{hover_of}
-use Rattle.lsp_renames.specs.Renames.{IsTarget, IsRename}
+use Rattle.lsp_results.specs.declared.page.Page.{Page}
+use Rattle.lsp_results.specs.Asked.{place_in, text_in}
+use Rattle.lsp_results.specs.Told.{IsDefinition, AreReferences, AreHighlights}
+use Rattle.lsp_results.specs.Symbols.{symbols_of}
+use Rattle.lsp_results.specs.Hover.{hover_of}
+use Rattle.lsp_results.specs.Renames.{IsTarget, IsRename}
 use Rattle.lsp_answers.specs.declared.documents.Document.{Document}
 use Rattle.lsp_answers.specs.declared.questions.Question.{Question}
 use Rattle.lsp_answers.specs.declared.questions.Question.TheVariants.{Definition, References, Highlights, Hover, Symbols, Target, Rename}

@@ -2,9 +2,9 @@
 use Rattle.std.specs.Prelude.{◌≡◌, Option, Some, codes, option_and_then}
 use Rattle.serde_json.specs.Data.{Data}
 use Rattle.serde_json.specs.Find.{get}
-use Rattle.lsp_places.specs.declared.page.Page.{Page}
-use Rattle.lsp_tokens.specs.declared.colours.Part.{Part}
-use Rattle.lsp_remedies.specs.Actions.{AreActions}
+use Rattle.lsp_results.specs.declared.page.Page.{Page}
+use Rattle.lsp_results.specs.declared.colours.Part.{Part}
+use Rattle.lsp_results.specs.Actions.{AreActions}
 use Rattle.lsp_answers.specs.Colours.{part_in}
 
 -- the part that a request names

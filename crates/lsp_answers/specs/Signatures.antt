@@ -1,8 +1,8 @@
 -- What is called at the place that a request names (LSP 3.17, signature help).
 use Rattle.std.specs.Prelude.{◌≡◌, ℕ, Some}
 use Rattle.serde_json.specs.Data.{Data}
-use Rattle.lsp_places.specs.declared.page.Page.{Page}
-use Rattle.lsp_signatures.specs.Help.{IsHelp}
+use Rattle.lsp_results.specs.declared.page.Page.{Page}
+use Rattle.lsp_results.specs.Help.{IsHelp}
 use Rattle.lsp_answers.specs.Completions.{offset_asked}
 
 pub record IsSigned (page : Page) (m d : Data) : Type 0 where

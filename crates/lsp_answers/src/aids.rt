@@ -11,7 +11,7 @@ use crate::folds::folds;
 use crate::remedies::remedies;
 use crate::replies::Fault;
 use crate::signatures::signed;
-use lsp_places::page::Page;
+use lsp_results::page::Page;
 use serde_json::Value;
 use std::alloc::{AllocError, Global};
 

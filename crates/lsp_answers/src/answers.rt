@@ -4,23 +4,23 @@ ghost use Rattle.std.specs.Prelude.{◌≡◌, IfOk};
 ghost use Rattle.serde_json.specs.Data.{null};
 ghost use Rattle.serde_json.specs.View.{view};
 ghost use Rattle.model_names.specs.Told.{AreMeant};
-ghost use Rattle.lsp_renames.specs.Renames.{IsRename};
+ghost use Rattle.lsp_results.specs.Renames.{IsRename};
 ghost use Rattle.lsp_answers.specs.Questions.{offset_in, has_declaration, IsTold, IsToldAt, IsToldOf, IsAnswerOn};
 
 use crate::documents::Document;
 use crate::questions::Question;
 use crate::replies::Fault;
-use lsp_names::hover::hover;
-use lsp_names::places::{definition, highlights, references};
-use lsp_names::symbols::symbols;
-use lsp_places::asked::{place_in, text_in};
-use lsp_places::page::Page;
-use lsp_renames::renames::{rename, target};
+use lsp_results::asked::{place_in, text_in};
+use lsp_results::hover::hover;
+use lsp_results::page::Page;
+use lsp_results::places::{definition, highlights, references};
+use lsp_results::renames::{rename, target};
+use lsp_results::symbols::symbols;
 use model_names::Names;
-use model_renames::renaming::NoRenaming;
+use model_verdicts::renaming::NoRenaming;
 use serde_json::Value;
 use std::alloc::{AllocError, Global};
-use text_places::{Unit, offset_of};
+use text_parts::{Unit, offset_of};
 
 /// The place of a text that a request asks of.
 pub fn offset_in(page: Page<'_>, parameters: &Value) -> Option<usize>

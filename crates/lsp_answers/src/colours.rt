@@ -5,12 +5,13 @@ ghost use Rattle.serde_json.specs.View.{view};
 ghost use Rattle.lsp_answers.specs.Colours.{extent_of, whole, place_at, part_within, part_in, part_of, AreTold};
 
 use crate::replies::Fault;
-use lsp_places::asked::place_in;
-use lsp_places::page::Page;
-use lsp_tokens::{Part, tokens_of};
+use lsp_results::asked::place_in;
+use lsp_results::colours::Part;
+use lsp_results::page::Page;
+use lsp_results::tokens::tokens_of;
 use serde_json::Value;
 use std::alloc::{AllocError, Global};
-use text_places::{Place, offset_of};
+use text_parts::{Place, offset_of};
 
 /// How much of a text a client asks of.
 #[derive(Clone, Copy, Debug, PartialEq, Eq)]

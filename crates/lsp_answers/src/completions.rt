@@ -7,7 +7,7 @@ ghost use Rattle.lsp_answers.specs.Completions.{offset_asked, IsCompleted};
 use crate::answers::offset_in;
 use crate::replies::Fault;
 use lsp_completions::completion;
-use lsp_places::page::Page;
+use lsp_results::page::Page;
 use serde_json::Value;
 use std::alloc::{AllocError, Global};
 

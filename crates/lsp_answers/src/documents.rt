@@ -2,14 +2,14 @@
 
 ghost use Rattle.std.specs.Prelude.{◌≡◌, ◌<◌, [], length, string_bytes, IfOk, IfSome, find, option_map};
 ghost use Rattle.lsp_answers.specs.Questions.{is_named};
-ghost use Rattle.lsp_places.specs.Changes.{all_changed};
+ghost use Rattle.lsp_results.specs.Changes.{all_changed};
 
-use kept_names::KeptNames;
-use lsp_places::changes::all_changed;
-use lsp_places::page::Page;
+use lsp_results::changes::all_changed;
+use lsp_results::page::Page;
+use model_names::KeptNames;
 use serde_json::Value;
 use std::alloc::{AllocError, Global};
-use text_places::Unit;
+use text_parts::Unit;
 
 /// So many texts are kept at most; of more the one that was opened or changed longest ago is let go.
 const MOST_DOCUMENTS: usize = 256;

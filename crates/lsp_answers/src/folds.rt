@@ -4,8 +4,8 @@ ghost use Rattle.std.specs.Prelude.{IfOk};
 ghost use Rattle.serde_json.specs.View.{view};
 ghost use Rattle.lsp_answers.specs.Aids.{IsFolded};
 
-use lsp_folds::folding;
-use lsp_places::page::Page;
+use lsp_results::folds::folding;
+use lsp_results::page::Page;
 use serde_json::Value;
 use std::alloc::{AllocError, Global};
 

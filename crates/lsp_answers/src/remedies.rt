@@ -6,9 +6,9 @@ ghost use Rattle.lsp_answers.specs.Remedies.{part_asked, AreRemedies};
 
 use crate::colours::part_in;
 use crate::replies::Fault;
-use lsp_places::page::Page;
-use lsp_remedies::actions;
-use lsp_tokens::Part;
+use lsp_results::actions::actions;
+use lsp_results::colours::Part;
+use lsp_results::page::Page;
 use serde_json::Value;
 use std::alloc::{AllocError, Global};
 
@@ -33,6 +33,6 @@ pub fn remedies(
     let Some(Part { from, to }) = part_asked(page, message) else {
         return Ok(Err(Fault::NoPlace));
     };
-    let part = model_remedies::Part { from, to };
+    let part = model_verdicts::Part { from, to };
     Ok(Ok(actions(alloc, page, part)?))
 }

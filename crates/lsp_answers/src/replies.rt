@@ -5,7 +5,7 @@ ghost use Rattle.serde_json.specs.Find.{get};
 ghost use Rattle.serde_json.specs.View.{view};
 ghost use Rattle.lsp_answers.specs.Messages.{reply_of};
 
-use model_renames::renaming::NoRenaming;
+use model_verdicts::renaming::NoRenaming;
 use serde_json::{Value, json};
 use std::alloc::{AllocError, Global};
 

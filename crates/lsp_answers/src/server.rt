@@ -12,10 +12,10 @@ use crate::fields::{lists, text_at};
 use crate::questions::Question;
 use crate::replies::{Fault, refused, reply};
 use crate::told::{told_nothing, told_of};
-use lsp_tokens::legend;
+use lsp_results::tokens::legend;
 use serde_json::{Value, json};
 use std::alloc::{AllocError, Global};
-use text_places::Unit;
+use text_parts::Unit;
 
 /// A server of one client.
 #[derive(Drop)]

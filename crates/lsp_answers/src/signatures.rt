@@ -6,8 +6,8 @@ ghost use Rattle.lsp_answers.specs.Signatures.{IsSigned};
 
 use crate::completions::offset_asked;
 use crate::replies::Fault;
-use lsp_places::page::Page;
-use lsp_signatures::signature;
+use lsp_results::page::Page;
+use lsp_results::signatures::signature;
 use serde_json::Value;
 use std::alloc::{AllocError, Global};
 

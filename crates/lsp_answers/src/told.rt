@@ -3,17 +3,16 @@
 ghost use Rattle.std.specs.Prelude.{◌≡◌, max, IfOk};
 ghost use Rattle.serde_json.specs.View.{view};
 ghost use Rattle.source_lines.specs.Places.{shown_offset};
-ghost use Rattle.lsp_places.specs.Places.{range_of};
+ghost use Rattle.lsp_results.specs.Places.{range_of};
 
 use crate::documents::Document;
-use all_verdicts::verdicts_of;
 use itoa::Buffer;
-use lsp_places::page::{Page, range};
-use model_verdicts::Verdict;
+use lsp_results::page::{Page, range};
+use model_verdicts::{Verdict, verdicts_of};
 use serde_json::{Value, json};
 use source_lines::position::shown_offset;
 use std::alloc::{AllocError, Global};
-use text_places::Unit;
+use text_parts::Unit;
 
 /// A part of a text of one byte at least.
 fn part(alloc: Global, page: Page<'_>, offset: usize, length: usize) -> Result<Value, AllocError>

@@ -6,7 +6,7 @@ use Rattle.serde_json.specs.View.{view}
 use Rattle.serde_json.specs.declared.value.Value.{Value, Null, the_lemmas}
 use Rattle.pml_token.specs.Word.{Word}
 use Rattle.explain_tokens.specs.Placed.{ArePlaced}
-use Rattle.lsp_places.specs.declared.page.Page.{Page}
+use Rattle.lsp_results.specs.declared.page.Page.{Page}
 use Rattle.offered_names.specs.Asked.{asked_behind}
 use Rattle.offered_names.specs.Standing.{stands, nowhere}
 use Rattle.offered_names.specs.Gaps.{gap_start, gap_end, mended}

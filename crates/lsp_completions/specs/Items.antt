@@ -3,10 +3,10 @@ use Rattle.std.specs.Prelude.{◌≡◌, ℕ, nat_eq, Bool, List, ◌++◌, map,
 use Rattle.std.specs.List.{starts_with}
 use Rattle.serde_json.specs.Data.{Data, number, unsigned, string, object, member, no_members}
 use Rattle.declared_names.specs.declared.declared.Declaration.{Declaration}
-use Rattle.lsp_names.specs.declared.sorts.Sort.{Sort}
-use Rattle.lsp_names.specs.declared.sorts.Sort.TheVariants.{Variable, Field, Constant, Typedef, Proctype, Label, Inline, Parameter}
-use Rattle.lsp_names.specs.Sorts.{sort_in, words_of}
-use Rattle.lsp_names.specs.Symbols.{text_shown}
+use Rattle.lsp_results.specs.declared.sorts.Sort.{Sort}
+use Rattle.lsp_results.specs.declared.sorts.Sort.TheVariants.{Variable, Field, Constant, Typedef, Proctype, Label, Inline, Parameter}
+use Rattle.lsp_results.specs.Sorts.{sort_in, words_of}
+use Rattle.lsp_results.specs.Symbols.{text_shown}
 use Rattle.offered_names.specs.declared.asked.Asked.{Asked}
 use Rattle.offered_names.specs.declared.asked.Asked.TheVariants.{Message}
 use Rattle.offered_names.specs.Offers.{name_of}

@@ -9,7 +9,7 @@ use Rattle.pml_program.specs.declared.form.Form.{Form}
 use Rattle.pml_program.specs.declared.form.Form.TheVariants as form
 use Rattle.explain_tokens.specs.Placed.{ArePlaced, IsUnplaced}
 use Rattle.declared_names.specs.declared.declared.Declaration.{Declaration}
-use Rattle.lsp_places.specs.declared.page.Page.{Page}
+use Rattle.lsp_results.specs.declared.page.Page.{Page}
 use Rattle.offered_names.specs.declared.asked.Asked.{Asked}
 use Rattle.offered_names.specs.declared.asked.Asked.TheVariants.{Any, Proctype, Label, Field, Message}
 use Rattle.offered_names.specs.declared.standing.Standing.{Standing}

@@ -6,8 +6,8 @@ ghost use Rattle.serde_json.specs.View.{view};
 ghost use Rattle.lsp_completions.specs.Items.{kind_of, rank_of, item_of, word_of, begins_so};
 
 use declared_names::declared::Declaration;
-use lsp_names::sorts::{Sort, sort_in};
-use lsp_names::symbols::text_shown;
+use lsp_results::sorts::{Sort, sort_in};
+use lsp_results::symbols::text_shown;
 use offered_names::{Asked, name_in};
 use serde_json::{Value, json};
 use std::alloc::{AllocError, Global};

@@ -11,7 +11,7 @@ use crate::readable::{Readable, readable_at};
 use crate::words::{IN_A_BODY, OUTSIDE};
 use declared_names::declared::Declaration;
 use explain_tokens::placed;
-use lsp_places::page::Page;
+use lsp_results::page::Page;
 use offered_names::{
     Asked, Standing, Wish, add_offered, asked_behind, form_behind, owner_at, stands,
 };

@@ -3,6 +3,7 @@
 
 mod found;
 mod inlines;
+mod kept;
 mod marks;
 mod names;
 mod scanned;
@@ -10,4 +11,5 @@ mod scanned;
 pub use declared_names::declared::{Declaration, Stands};
 pub use declared_names::occurrence::Occurrence;
 pub use inlines::Inlines;
+pub use kept::KeptNames;
 pub use names::{Names, names_of};

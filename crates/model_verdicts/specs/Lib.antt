@@ -1,1 +1,9 @@
 pub mod Verdicts
+pub mod AllVerdicts
+pub mod Exchanged
+pub mod Causes
+pub mod Better
+pub mod Replaced
+pub mod Alike
+pub mod Fronts
+pub mod Renamed

@@ -4,7 +4,7 @@ use Rattle.pml_program.specs.declared.program.Program.{Program}
 use Rattle.pml_play.specs.Transcript.{IsRefused}
 use Rattle.pml_play.specs.Parts.{IsReady}
 use Rattle.explain_find.specs.Told.{IsTold}
-use Rattle.model_verdicts.specs.declared.Verdict.{Verdict}
+use Rattle.model_verdicts.specs.declared.verdict.Verdict.{Verdict}
 
 -- a text that `play` plays: it stands for a model
 pub record IsPlayed (text : List ℕ) : Type 0 where

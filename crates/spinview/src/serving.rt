@@ -17,7 +17,7 @@ use view_words::Asked;
 use walk_answers::request::Request;
 use walk_lines::answers::{Answered, Run, Setting, add_state, answer, ask};
 use walk_lines::lines::add_error;
-use walk_requests::{MOST_LINE, Unread, request_of};
+use walk_lines::requests::{MOST_LINE, Unread, request_of};
 
 // So many bytes are written at once.
 const AT_ONCE: usize = 60_000;

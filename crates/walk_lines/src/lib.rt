@@ -1,5 +1,6 @@
-//! What a program asks of a walk, answered by lines of JSON.
+//! What a program asks of a walk by lines of JSON, and lines of JSON that answer it.
 #![tactic(auto)]
 
 pub mod answers;
 pub mod lines;
+pub mod requests;

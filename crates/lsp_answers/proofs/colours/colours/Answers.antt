@@ -1,9 +1,9 @@
 use Rattle.std.proofs.Common.{◌≡◌, sym, subst, Option, Some, IfSome}
 use Rattle.serde_json.specs.View.{view}
 use Rattle.serde_json.specs.declared.value.Value.{Value}
-use Rattle.lsp_places.specs.declared.page.Page.{Page}
-use Rattle.lsp_tokens.specs.declared.colours.Part.{Part}
-use Rattle.lsp_tokens.specs.Told.{AreColours}
+use Rattle.lsp_results.specs.declared.page.Page.{Page}
+use Rattle.lsp_results.specs.declared.colours.Part.{Part}
+use Rattle.lsp_results.specs.Tokens.{AreColours}
 use Rattle.lsp_answers.specs.Colours.{AreTold, colours}
 use Rattle.lsp_answers.proofs.colours.colours.Goals as goal
 

@@ -1,8 +1,8 @@
 use Rattle.std.proofs.Common.{◌≡◌, subst, Option, Some, IfSome}
 use Rattle.serde_json.specs.View.{view}
 use Rattle.serde_json.specs.declared.value.Value.{Value}
-use Rattle.lsp_places.specs.declared.page.Page.{Page}
-use Rattle.lsp_folds.specs.Lines.{AreFolds}
+use Rattle.lsp_results.specs.declared.page.Page.{Page}
+use Rattle.lsp_results.specs.Lines.{AreFolds}
 use Rattle.lsp_answers.specs.Aids.{IsFolded, folded}
 use Rattle.lsp_answers.proofs.folds.folds.Goals as goal
 

@@ -1,0 +1,5 @@
+use Rattle.view_text.specs.Written.{Stays}
+use Rattle.dap_messages.proofs.channels.add_messages.Given as goal
+
+abbrev pub invariant-loop-at : goal.invariant-loop-at
+invariant-loop-at l = Stays l.fn.out l.out

@@ -1,0 +1,153 @@
+//! Variables and their cells.
+
+use crate::references::{Shown, reference_of};
+use crate::words::words_of;
+use promela_process::place::Place;
+use serde_json::{Value, json};
+use std::alloc::{AllocError, Global};
+use view_cells::cells::{
+    add_cell, add_path, cell_count, form_at, is_chan, number_at, slot_at, variable_count,
+};
+use view_cells::picture::Picture;
+use view_text::writer::Writer;
+
+/// Which items of a list are asked for.
+#[derive(Clone, Copy, Debug, PartialEq, Eq)]
+pub struct Page {
+    pub start: usize,
+    pub count: usize,
+}
+
+impl Page {
+    // Where the items end that are asked for, of so many.
+    fn end(self, length: usize) -> usize {
+        self.start.saturating_add(self.count).min(length)
+    }
+}
+
+/// A variable without parts.
+pub fn variable(alloc: Global, name: &str, value: &str) -> Result<Value, AllocError> {
+    json!(in alloc; {"name": name, "value": value, "variablesReference": 0})
+}
+
+/// The path of a cell within its owner.
+pub fn path_of(
+    alloc: Global,
+    picture: &Picture<'_, '_, '_>,
+    place: Place,
+) -> Result<String, AllocError> {
+    let mut out = Writer::new(alloc);
+    add_path(picture, place, &mut out);
+    words_of(&out)
+}
+
+/// The value of a cell in words.
+pub fn value_of(
+    alloc: Global,
+    picture: &Picture<'_, '_, '_>,
+    place: Place,
+) -> Result<String, AllocError> {
+    let mut path = Writer::new(alloc);
+    add_path(picture, place, &mut path);
+    path.add(b" = ");
+    let mut cell = Writer::new(alloc);
+    add_cell(picture, place, &mut cell);
+    let mut value = Writer::new(alloc);
+    value.add(
+        cell.bytes()
+            .strip_prefix(path.bytes())
+            .unwrap_or(cell.bytes()),
+    );
+    value.keep_refusal(&path);
+    value.keep_refusal(&cell);
+    words_of(&value)
+}
+
+/// The number that stands for the messages of the channel that a cell names; 0 where it names none.
+pub fn messages_of(picture: &Picture<'_, '_, '_>, place: Place) -> usize {
+    let number = number_at(picture, place);
+    if number > 0 && is_chan(form_at(picture, place)) {
+        return reference_of(Shown::Messages(number as usize));
+    }
+    0
+}
+
+// A cell as a variable.
+fn cell(alloc: Global, picture: &Picture<'_, '_, '_>, place: Place) -> Result<Value, AllocError> {
+    let name = path_of(alloc, picture, place)?;
+    let value = value_of(alloc, picture, place)?;
+    let reference = messages_of(picture, place);
+    let name = name.as_str();
+    json!(in alloc; {"name": name, "value": value, "evaluateName": name, "variablesReference": reference})
+}
+
+/// How many cells a variable has, in words.
+pub fn count_words(alloc: Global, count: usize) -> Result<String, AllocError> {
+    let mut out = Writer::new(alloc);
+    out.number(count);
+    out.add(b" cells");
+    words_of(&out)
+}
+
+// A variable of several cells, which are asked for by its number.
+fn several(
+    alloc: Global,
+    picture: &Picture<'_, '_, '_>,
+    frame: usize,
+    number: usize,
+    count: usize,
+) -> Result<Value, AllocError> {
+    let mut out = Writer::new(alloc);
+    if let Some(slot) = slot_at(picture, frame, number) {
+        out.add(slot.name.text());
+    }
+    let name = words_of(&out)?;
+    let value = count_words(alloc, count)?;
+    let reference = reference_of(Shown::Cells(frame, number));
+    json!(in alloc; {"name": name, "value": value, "variablesReference": reference, "indexedVariables": count})
+}
+
+/// The variables of a frame that are asked for.
+pub fn variables_of(
+    alloc: Global,
+    picture: &Picture<'_, '_, '_>,
+    frame: usize,
+    page: Page,
+) -> Result<Value, AllocError> {
+    let mut list = Vec::new(alloc);
+    for number in page.start..page.end(variable_count(picture, frame)) {
+        let count = cell_count(picture, frame, number);
+        let place = Place {
+            frame,
+            variable: number,
+            cell: 0,
+        };
+        let one = if count == 1 {
+            cell(alloc, picture, place)?
+        } else {
+            several(alloc, picture, frame, number, count)?
+        };
+        list.push(one)?;
+    }
+    Ok(Value::Array(list))
+}
+
+/// The cells of a variable that are asked for.
+pub fn cells_of(
+    alloc: Global,
+    picture: &Picture<'_, '_, '_>,
+    frame: usize,
+    number: usize,
+    page: Page,
+) -> Result<Value, AllocError> {
+    let mut list = Vec::new(alloc);
+    for at in page.start..page.end(cell_count(picture, frame, number)) {
+        let place = Place {
+            frame,
+            variable: number,
+            cell: at,
+        };
+        list.push(cell(alloc, picture, place)?)?;
+    }
+    Ok(Value::Array(list))
+}

@@ -1,0 +1,121 @@
+//! Channels and their messages.
+
+ghost use Rattle.view_text.specs.Written.{Stays};
+
+use crate::cells::{Page, variable};
+use crate::references::{Shown, reference_of};
+use crate::words::words_of;
+use pml_channel::channel::Channel;
+use serde_json::{Value, json};
+use std::alloc::{AllocError, Global};
+use view_cells::channels::{add_channel, add_message, channel_at};
+use view_cells::picture::Picture;
+use view_text::writer::Writer;
+
+// So many messages stand beside the name of a channel.
+const MOST_BESIDE: usize = 8;
+
+// Writes the first messages.
+fn add_messages(picture: &Picture<'_, '_, '_>, channel: &Channel, out: &mut Writer)
+    ensures { Stays out.old out.new }
+{
+    let count = channel.len().min(MOST_BESIDE);
+    for at in 0..count {
+        out.add(b" ");
+        add_message(picture, channel.types(), channel.message(at), out);
+    }
+    if channel.len() > count {
+        out.add(b" ..");
+    }
+}
+
+/// Writes how full a channel is, and its first messages: `2 of 3 (ping, 1) (pong, 2)`.
+pub fn add_contents(picture: &Picture<'_, '_, '_>, number: usize, out: &mut Writer)
+    ensures { Stays out.old out.new }
+{
+    let Some(channel) = channel_at(picture, number) else {
+        return;
+    };
+    if channel.capacity() == 0 {
+        out.add(b"rendezvous");
+        return;
+    }
+    out.number(channel.len());
+    out.add(b" of ");
+    out.number(usize::from(channel.capacity()));
+    add_messages(picture, channel, out);
+}
+
+// A channel as a variable.
+fn channel(
+    alloc: Global,
+    picture: &Picture<'_, '_, '_>,
+    number: usize,
+) -> Result<Value, AllocError> {
+    let mut name = Writer::new(alloc);
+    add_channel(picture, number, &mut name);
+    let mut value = Writer::new(alloc);
+    add_contents(picture, number, &mut value);
+    let name = words_of(&name)?;
+    let value = words_of(&value)?;
+    let reference = match channel_at(picture, number) {
+        Some(channel) if channel.len() > 0 => reference_of(Shown::Messages(number)),
+        _ => 0,
+    };
+    json!(in alloc; {"name": name, "value": value, "variablesReference": reference})
+}
+
+/// The channels that are asked for.
+pub fn channels_of(
+    alloc: Global,
+    picture: &Picture<'_, '_, '_>,
+    page: Page,
+) -> Result<Value, AllocError> {
+    let mut list = Vec::new(alloc);
+    let end = page
+        .start
+        .saturating_add(page.count)
+        .min(picture.channel_count());
+    for before in page.start..end {
+        list.push(channel(alloc, picture, before + 1)?)?;
+    }
+    Ok(Value::Array(list))
+}
+
+// A message as a variable, whose name is its place.
+fn message(
+    picture: &Picture<'_, '_, '_>,
+    channel: &Channel,
+    at: usize,
+    alloc: Global,
+) -> Result<Value, AllocError> {
+    let mut name = Writer::new(alloc);
+    name.add(b"[");
+    name.number(at);
+    name.add(b"]");
+    let mut value = Writer::new(alloc);
+    if at < channel.len() {
+        add_message(picture, channel.types(), channel.message(at), &mut value);
+    }
+    let name = words_of(&name)?;
+    let value = words_of(&value)?;
+    variable(alloc, name.as_str(), value.as_str())
+}
+
+/// The messages of a channel that are asked for, the oldest first.
+pub fn messages_of(
+    alloc: Global,
+    picture: &Picture<'_, '_, '_>,
+    number: usize,
+    page: Page,
+) -> Result<Value, AllocError> {
+    let mut list = Vec::new(alloc);
+    let Some(channel) = channel_at(picture, number) else {
+        return Ok(Value::Array(list));
+    };
+    let end = page.start.saturating_add(page.count).min(channel.len());
+    for at in page.start..end {
+        list.push(message(picture, channel, at, alloc)?)?;
+    }
+    Ok(Value::Array(list))
+}

@@ -1,6 +1,0 @@
-use Rattle.std.proofs.Common.{◌≡◌, ◌++◌, [], drop}
-use Rattle.folded_parts.specs.Folds.{folds}
-use Rattle.folded_parts.proofs.folds.folds_of.Given as goal
-
-abbrev pub invariant-loop-token : goal.invariant-loop-token
-invariant-loop-token l = l.out.items ++ folds l.starts.items (drop l.token-index l.tokens) ≡ folds [] l.tokens

@@ -1,4 +1,0 @@
-pub mod Told
-pub mod Sorts
-pub mod Symbols
-pub mod Hover

@@ -1,6 +1,0 @@
-use Rattle.std.proofs.Common.{◌≡◌, drop}
-use Rattle.lsp_places.specs.Changes.{all_changed}
-use Rattle.lsp_places.proofs.changes.all_changed.Given as goal
-
-abbrev pub invariant-loop-change : goal.invariant-loop-change
-invariant-loop-change l = all_changed l.unit l.text.items (drop l.change-index l.changes) ≡ all_changed l.fn.unit l.fn.text.items l.fn.changes

@@ -1,4 +1,0 @@
-//! Renames, as a language server tells them.
-#![tactic(auto)]
-
-pub mod renames;

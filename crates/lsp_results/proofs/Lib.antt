@@ -1,0 +1,3 @@
+mod Targets
+pub mod Offering
+mod Helping

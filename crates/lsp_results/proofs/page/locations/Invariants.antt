@@ -1,0 +1,7 @@
+use Rattle.std.proofs.Common.{◌≡◌, ◌++◌, drop, map}
+use Rattle.serde_json.specs.View.{view}
+use Rattle.lsp_results.specs.Places.{location_of}
+use Rattle.lsp_results.proofs.page.locations.Given as goal
+
+abbrev pub invariant-loop-place : goal.invariant-loop-place
+invariant-loop-place l = map view l.list.items ++ map (location_of l.page l.length) (drop l.place-index l.places) ≡ map (location_of l.fn.page l.fn.length) l.fn.places

@@ -1,0 +1,14 @@
+pub mod Places
+pub mod Asked
+pub mod Changes
+pub mod Told
+pub mod Sorts
+pub mod Symbols
+pub mod Hover
+pub mod Renames
+pub mod Actions
+pub mod Help
+pub mod Lines
+pub mod Cells
+pub mod Colours
+pub mod Tokens

@@ -1,0 +1,127 @@
+//! What a declared name is, for an editor.
+
+ghost use Rattle.std.specs.Prelude.{◌≡◌, find};
+ghost use Rattle.std.specs.List.{list_any};
+ghost use Rattle.lsp_results.specs.Sorts.{holds, sort_of, sort_in, number_of, words_of, is_declared_at, declared_at, sort_at};
+
+use model_names::{Declaration, Names, Stands};
+use promela_model::thing::Thing;
+
+/// What a declared name is.
+#[derive(Clone, Copy, Debug, PartialEq, Eq)]
+pub enum Sort {
+    Variable,
+    Field,
+    Constant,
+    Typedef,
+    Proctype,
+    Label,
+    Inline,
+    Parameter,
+}
+
+impl Sort {
+    /// The number that editors give what is most like it (LSP 3.17, `SymbolKind`).
+    pub fn number(self) -> usize
+        ensures { result ≡ number_of self }
+    {
+        match self {
+            Sort::Variable => 13,
+            Sort::Field => 8,
+            Sort::Constant => 22,
+            Sort::Typedef => 23,
+            Sort::Proctype => 5,
+            Sort::Label => 20,
+            Sort::Inline => 12,
+            Sort::Parameter => 13,
+        }
+    }
+
+    /// What it is called.
+    pub fn words(self) -> &'static str
+        ensures { result.now ≡ words_of self }
+    {
+        match self {
+            Sort::Variable => "variable",
+            Sort::Field => "field",
+            Sort::Constant => "mtype name",
+            Sort::Typedef => "typedef",
+            Sort::Proctype => "proctype",
+            Sort::Label => "label",
+            Sort::Inline => "inline",
+            Sort::Parameter => "parameter of an inline",
+        }
+    }
+}
+
+/// Whether a declaration is that of the typedef whose fields have this owner.
+fn holds(declaration: &Declaration, owner: usize) -> bool
+    ensures { result ≡ holds owner declaration.now }
+{
+    match declaration.stands {
+        Stands::Thing(Thing::Typedef(fields, _)) => fields == owner,
+        _ => false,
+    }
+}
+
+fn is_field(declarations: &[Declaration], owner: usize) -> bool
+    ensures { result ≡ list_any (holds owner) declarations.now }
+{
+    declarations.iter().any(|d| holds(d, owner))
+}
+
+fn sort_of(stands: Stands) -> Sort
+    ensures { result ≡ sort_of stands }
+{
+    match stands {
+        Stands::Thing(Thing::Variable(_)) => Sort::Variable,
+        Stands::Thing(Thing::Constant(_)) => Sort::Constant,
+        Stands::Thing(Thing::Typedef(_, _)) => Sort::Typedef,
+        Stands::Thing(Thing::Proctype(_, _)) => Sort::Proctype,
+        Stands::Label => Sort::Label,
+        Stands::Inline => Sort::Inline,
+        Stands::Parameter => Sort::Parameter,
+    }
+}
+
+/// What a declaration is among all of a text but those of inlines.
+pub fn sort_in(declarations: &[Declaration], declaration: &Declaration) -> Sort
+    ensures { result ≡ sort_in declarations.now declaration.now }
+{
+    match sort_of(declaration.stands) {
+        Sort::Variable if is_field(declarations, declaration.owner) => Sort::Field,
+        sort => sort,
+    }
+}
+
+fn is_declared_at(declaration: &Declaration, at: usize) -> bool
+    ensures { result ≡ is_declared_at at declaration.now }
+{
+    declaration.at == at
+}
+
+/// The first of these declarations that stands at a place.
+fn declared_at(declarations: &[Declaration], at: usize) -> Option<Declaration>
+    ensures { result ≡ find (is_declared_at at) declarations.now }
+{
+    for declaration in declarations {
+        if is_declared_at(declaration, at) {
+            return Some(*declaration);
+        }
+    }
+    None
+}
+
+/// What the name is that is declared at a place: an inline or its parameter first.
+pub fn sort_at(names: &Names, at: usize) -> Option<Sort>
+    ensures { result ≡ sort_at names.now at }
+{
+    let declarations = names.declarations.as_slice();
+    match declared_at(names.inlines.declarations.as_slice(), at) {
+        Some(found) => Some(sort_in(declarations, &found)),
+        None => match declared_at(declarations, at) {
+            Some(found) => Some(sort_in(declarations, &found)),
+            None => None,
+        },
+    }
+}

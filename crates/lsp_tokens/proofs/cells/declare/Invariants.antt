@@ -1,6 +1,0 @@
-use Rattle.std.proofs.Common.{◌≡◌, drop}
-use Rattle.lsp_tokens.specs.Cells.{declared}
-use Rattle.lsp_tokens.proofs.cells.declare.Given as goal
-
-abbrev pub invariant-loop-declaration : goal.invariant-loop-declaration
-invariant-loop-declaration l = declared l.all l.cells.items (drop l.declaration-index l.some) ≡ declared l.all l.fn.cells.items l.some

@@ -1,7 +1,0 @@
-use Rattle.std.proofs.Common.{◌≡◌, ◌++◌, drop, map}
-use Rattle.serde_json.specs.View.{view}
-use Rattle.lsp_tokens.specs.Told.{number_told}
-use Rattle.lsp_tokens.proofs.told.listed.Given as goal
-
-abbrev pub invariant-loop-number : goal.invariant-loop-number
-invariant-loop-number l = map view l.list.items ++ map number_told (drop l.number-index l.numbers) ≡ map number_told l.numbers

@@ -1,4 +1,0 @@
-use Rattle.model_remedies.proofs.offered.+offered.Given as goal
-
-abbrev pub decreases-offered : goal.decreases-offered
-decreases-offered l = l.count

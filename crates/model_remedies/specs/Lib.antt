@@ -1,3 +1,0 @@
-pub mod Exchanged
-pub mod Causes
-pub mod Better

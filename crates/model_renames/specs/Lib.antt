@@ -1,4 +1,0 @@
-pub mod Replaced
-pub mod Alike
-pub mod Fronts
-pub mod Renamed

@@ -1,0 +1,4 @@
+pub mod Bounds
+pub mod Leading
+pub mod Rests
+mod Reading

@@ -1,0 +1,11 @@
+pub mod Columns
+pub mod Offsets
+pub mod Going
+pub mod Coded
+pub mod Folds
+pub mod Bodies
+pub mod Written
+pub mod Rest
+pub mod Calls
+pub mod Arguments
+pub mod Definitions
