@@ -6,11 +6,11 @@ ghost use Rattle.check_resolve.specs.Statements.{values, store, proctype_of, run
 
 use crate::expression::{expr, reference, target, wants};
 use crate::reached::Reached;
-use crate::room::room_for;
 use crate::scope::Scope;
 use check_names::meaning::meaning;
 use pml_program::expr::{Expr, Target};
 use pml_program::program::{Action, Run};
+use pml_tree::room::room_for;
 use pml_tree::tree::{Action as TreeAction, Expr as TreeExpr, Reference, Run as TreeRun};
 use promela_model::thing::Thing;
 use sqlite_items::Items;

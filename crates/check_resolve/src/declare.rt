@@ -9,7 +9,6 @@ ghost use Rattle.check_resolve.specs.Numbered.{scope_of};
 ghost use Rattle.check_resolve.specs.Declarations.{known, natural, plain, initial, slot, declares, with_variable, with_variables};
 
 use crate::expression::expr;
-use crate::room::room_for;
 use crate::scope::Scope;
 use check_names::names::Names;
 use check_names::table::Table;
@@ -17,6 +16,7 @@ use check_uses::constant::constant;
 use pml_program::form::Form;
 use pml_program::program::{Initial, Slot};
 use pml_token::token::Token;
+use pml_tree::room::room_for;
 use pml_tree::tree::{Expr as TreeExpr, Initial as TreeInitial, Scalar, Sort, Variable};
 use promela_model::mark::{Constant, Declared, Makes, Role, What};
 use promela_model::thing::Thing;

@@ -6,13 +6,13 @@ ghost use Rattle.pml_program.specs.declared.expr.Expr.TheVariants as term;
 ghost use Rattle.check_resolve.specs.Numbered.{scope_of, through, placed_by, numbered, numbered_argument, numbered_reference, numbered_step, at_scope, is_local, literal, signed, mtype, read, target, received, turn_of, target_of, no_target};
 
 use crate::reached::Reached;
-use crate::room::room_for;
 use crate::scope::Scope;
 use check_names::meaning::{field, is_any, is_count, is_pid, meaning};
 use check_names::table::Table;
 use check_uses::arithmetic::{negative, value as number_value};
 use pml_program::expr::{Expr, Target, Turn, Want};
 use pml_program::form::Form;
+use pml_tree::room::room_for;
 use pml_tree::tree::{Argument, Expr as TreeExpr, Infix, Prefix, Reference, Sign, Step};
 use profile::MOST_CONSTANTS;
 use promela_model::mark::Constant;

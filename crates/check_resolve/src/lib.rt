@@ -6,6 +6,5 @@ mod declare;
 mod expression;
 pub mod model;
 mod reached;
-mod room;
 mod scope;
 mod statement;

@@ -9,11 +9,11 @@ ghost use Rattle.check_resolve.specs.Statements.{action, adds, declares, each, n
 
 use crate::action::action;
 use crate::declare::{Holder, variables};
-use crate::room::room_for;
 use crate::scope::{Scope, Whose};
 use check_names::names::Names;
 use pml_program::program::{Basic, Seq, Slot, Stmt};
 use pml_token::token::Token;
+use pml_tree::room::room_for;
 use pml_tree::tokens::Tokens;
 use pml_tree::tree::{Action as TreeAction, Basic as TreeBasic, Item, Seq as TreeSeq, Variable};
 use promela_model::mark::Role;

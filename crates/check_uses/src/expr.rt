@@ -4,6 +4,7 @@ ghost use Rattle.std.specs.Prelude.{◌≡◌, ◌++◌, ◌∷◌, [], OnOk, If
 ghost use Rattle.promela_model.specs.Marks.{of_expr, of_argument, of_reference, mark};
 ghost use Rattle.check_uses.specs.Parts.{of_step, shapes, of_arguments, of_exprs};
 
+use pml_tree::room::room_for;
 use pml_tree::tree::{Argument, Expr, Reference, Step};
 use promela_model::mark::{Mark, Shape, Use, What};
 use sqlite_items::Items;
@@ -93,7 +94,7 @@ pub fn reference<'a>(
 ) -> Result<(), AllocError>
     ensures { OnOk result (out.new ≡ out.old ++ of_reference r.now used owner) }
 {
-    let mut shapes = Items::from_vec(Vec::with_capacity(alloc, r.fields.len().saturating_add(1))?);
+    let mut shapes = room_for(alloc, r.fields.len().saturating_add(1))?;
     shapes.push(step(alloc, &r.first, owner, out)?)?;
     for field in r.fields.as_slice() {
         shapes.push(step(alloc, field, owner, out)?)?;

@@ -8,6 +8,7 @@ use crate::cursor::Cursor;
 use crate::expr::expr;
 use crate::fault::ReadFault;
 use pml_token::token::Kind;
+use pml_tree::room::room_for;
 use pml_tree::tree::Expr;
 use sqlite_items::Items;
 use std::alloc::Global;
@@ -78,8 +79,8 @@ pub fn values<'a>(
 ) -> Result<Items<Expr<'a>>, ReadFault>
     ensures { Reads (reading.values depth tokens.old) result tokens.new }
 {
-    let mut first = Items::new(alloc);
     let x = expr(alloc, depth, 1, tokens)?;
+    let mut first = room_for(alloc, 1)?;
     first.push(x)?;
     behind_first(alloc, depth, first, tokens)
 }

@@ -10,6 +10,7 @@ use crate::expr::expr_behind;
 use crate::fault::ReadFault;
 use crate::operators::{Start, start_of};
 use pml_token::token::Kind;
+use pml_tree::room::room_for;
 use pml_tree::tree::{Argument, Expr, Prefix, Reference, Sign, Step};
 use sqlite_items::{Boxed, Items};
 use std::alloc::Global;
@@ -204,11 +205,11 @@ pub fn arguments<'a>(
 ) -> Result<Items<Argument<'a>>, ReadFault>
     ensures { Reads (reading.arguments (reading.expr depth) tokens.old) result tokens.new }
 {
-    let mut first = Items::new(alloc);
     if tokens.sees(Kind::OpenParen) {
-        return enclosed(alloc, depth, first, tokens);
+        return enclosed(alloc, depth, Items::new(alloc), tokens);
     }
     let x = argument(alloc, depth, tokens)?;
+    let mut first = room_for(alloc, 1)?;
     first.push(x)?;
     behind_first(alloc, depth, first, tokens)
 }

@@ -14,6 +14,7 @@ use pml_expression::fault::ReadFault;
 use pml_expression::list::{expr_list, values};
 use pml_expression::references::{arguments, expr_between, reference};
 use pml_token::token::{Kind, Token};
+use pml_tree::room::room_for;
 use pml_tree::tree::{Action, Argument, Expr, Reference, Removal, Run, Search, SendOrder};
 use sqlite_items::{Boxed, Items};
 use std::alloc::Global;
@@ -26,11 +27,10 @@ fn run_values<'a>(
 ) -> Result<Items<Expr<'a>>, ReadFault>
     ensures { Reads (reading.run_values depth tokens.old) result tokens.new }
 {
-    let none = Items::new(alloc);
     if tokens.sees(Kind::CloseParen) {
-        return Ok(none);
+        return Ok(Items::new(alloc));
     }
-    expr_list(alloc, depth, none, tokens)
+    expr_list(alloc, depth, room_for(alloc, 1)?, tokens)
 }
 
 #[tactic(auto, unfolding(crate::specs::ReadingStatements::run_call, pml_expression::specs::Reading::closing, pml_expression::specs::Reading::and_then))]
@@ -212,12 +212,11 @@ fn printed<'a>(
 ) -> Result<Items<Expr<'a>>, ReadFault>
     ensures { Reads (reading.printed depth tokens.old) result tokens.new }
 {
-    let none = Items::new(alloc);
     if !tokens.sees(Kind::Comma) {
-        return Ok(none);
+        return Ok(Items::new(alloc));
     }
     tokens.expect(Kind::Comma)?;
-    expr_list(alloc, depth, none, tokens)
+    expr_list(alloc, depth, room_for(alloc, 1)?, tokens)
 }
 
 /// A `printf` up to its string.

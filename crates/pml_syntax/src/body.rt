@@ -15,6 +15,7 @@ use crate::starts::{Opening, is_end, is_exclusive, is_separator, opening_of};
 use pml_expression::cursor::Cursor;
 use pml_expression::fault::ReadFault;
 use pml_token::token::{Kind, Token};
+use pml_tree::room::room_for;
 use pml_tree::tree::{Basic, Item, Seq};
 use sqlite_items::{Boxed, Items};
 use std::alloc::Global;
@@ -50,7 +51,7 @@ fn declared<'a>(
     ensures { Reads (reading.declared depth tokens.old) result tokens.new }
 {
     let start = tokens.ahead();
-    let (variables, closed) = declaration(alloc, depth, Items::new(alloc), tokens)?;
+    let (variables, closed) = declaration(alloc, depth, room_for(alloc, 1)?, tokens)?;
     let made = boxes::declare(alloc, variables);
     boxes::item(alloc, made, tokens.since(start), false, closed)
 }
@@ -358,7 +359,7 @@ fn items<'a>(
 ) -> Result<(Items<Item<'a>>, bool), ReadFault>
     ensures { Reads (reading.items_from depth (reading.items depth) (length tokens.old) false [] tokens.old) result tokens.new }
 {
-    let mut found = Items::new(alloc);
+    let mut found = room_for(alloc, 1)?;
     let mut step = false;
     for _turn in 0..tokens.left() {
         let (x, is_step, closed) = item(alloc, depth, tokens)?;

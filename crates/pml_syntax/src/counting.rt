@@ -10,18 +10,12 @@ ghost use Rattle.promela_model.specs.GrammarOfModels as loops;
 use crate::boxes;
 use crate::starts::Opening;
 use pml_token::token::{Kind, Token};
+use pml_tree::room::room_for;
 use pml_tree::tokens::Tokens;
 use pml_tree::tree::{Action, Basic, Expr, Infix, Item, Reference, Seq};
 use promela_model::range::{Bound, Counter, Range};
 use sqlite_items::{Boxed, Items};
 use std::alloc::{AllocError, Global};
-
-/// An empty list with room for this many, so that no memory is kept beyond need.
-fn room_for<T>(alloc: Global, count: usize) -> Result<Items<T>, AllocError>
-    ensures { IfOk result (λ items. items ≡ []) }
-{
-    Ok(Items::from_vec(Vec::with_capacity(alloc, count)?))
-}
 
 /// Adds copies of these tokens.
 fn add_all<'a>(found: &mut Items<Token<'a>>, tokens: &[Token<'a>]) -> Result<(), AllocError>

@@ -14,6 +14,7 @@ use pml_expression::cursor::Cursor;
 use pml_expression::fault::ReadFault;
 use pml_expression::references::index;
 use pml_token::token::{Kind, Token};
+use pml_tree::room::room_for;
 use pml_tree::tree::{Item, Proctype, Scalar, Seq, Sort, Starts, Tree, Unit, Variable};
 use promela_model::opener::Opener;
 use sqlite_items::{Boxed, Items};
@@ -309,7 +310,7 @@ fn variables<'a>(
 ) -> Result<Unit<'a>, ReadFault>
     ensures { Reads (reading.variables depth tokens.old) result tokens.new }
 {
-    let (found, _) = declaration(alloc, depth, Items::new(alloc), tokens)?;
+    let (found, _) = declaration(alloc, depth, room_for(alloc, 1)?, tokens)?;
     Ok(Unit::Variables(found))
 }
 

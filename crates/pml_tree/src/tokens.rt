@@ -2,6 +2,7 @@
 
 ghost use Rattle.std.specs.Prelude.{◌≡◌, IfOk};
 
+use crate::room::room_for;
 use pml_token::token::Token;
 use sqlite_items::{Boxed, Items};
 use std::alloc::{AllocError, Global};
@@ -73,7 +74,7 @@ impl<'a> Tokens<'a> {
 fn copies<'a>(alloc: Global, tokens: &[Token<'a>]) -> Result<Items<Token<'a>>, AllocError>
     ensures { IfOk result (λ ts. ts ≡ tokens.now) }
 {
-    let mut found = Items::from_vec(Vec::with_capacity(alloc, tokens.len())?);
+    let mut found = room_for(alloc, tokens.len())?;
     for token in tokens {
         found.push(token.copied())?;
     }
