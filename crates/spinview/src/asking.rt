@@ -2,9 +2,10 @@
 ghost use Rattle.std.specs.Prelude.{◌≡◌};
 ghost use Rattle.view_walk.specs.Walks.{SameModel};
 
+use crate::lines::{begin, go_on, run_lines};
 use crate::opened::Files;
 use crate::output::show_lines;
-use crate::runs::{begin, begin_behind, go_on, sheet_of, tell_choices, why_unread};
+use crate::runs::{sheet_of, tell_choices, why_unread};
 use crate::shown::without_end;
 use crate::stop::{Device, NoView, failed};
 use devices::SliceSource;
@@ -141,22 +142,6 @@ fn answer_lines(
     Ok(())
 }
 
-// The lines of the choices that a run is given. Why they end.
-fn first_lines(
-    rt: &HostRuntime,
-    walk: &mut Walk<'_, '_>,
-    replay: &mut Replay<ReadChoices>,
-    asked: &Asked,
-    sheet: &mut Sheet,
-) -> Result<&'static str, NoView>
-    ensures { SameModel walk.old walk.new }
-{
-    match begin_behind(rt, walk, replay, asked, sheet)? {
-        Some(end) => Ok(end),
-        None => go_on(rt, walk, replay, asked.limit as usize, false, sheet),
-    }
-}
-
 // A run that begins with the choices that it is given, and goes on by lines.
 pub fn run_asking(
     rt: &HostRuntime,
@@ -168,7 +153,7 @@ pub fn run_asking(
     ensures { SameModel walk.old walk.new }
 {
     let mut sheet = sheet_of(rt, replay);
-    match first_lines(rt, walk, replay, asked, &mut sheet) {
+    match run_lines(rt, walk, replay, asked, false, &mut sheet) {
         Ok(end) => tell_choices(rt, asked, replay, end),
         Err(stop) => return Err(why_unread(stop, replay)),
     }

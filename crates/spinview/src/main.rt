@@ -2,6 +2,7 @@
 #![tactic(auto)]
 
 mod asking;
+mod lines;
 mod opened;
 mod output;
 mod runs;

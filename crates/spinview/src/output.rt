@@ -3,7 +3,7 @@ use crate::stop::{Device, NoView, failed};
 use std::fs;
 use std::io::Write;
 use view_foreign::escaped::add_escaped;
-use view_foreign::shown::add_shown;
+use view_foreign::shown::{add_shown, are_plain};
 use view_text::writer::Writer;
 
 // Writes what is to be shown to a person.
@@ -69,7 +69,7 @@ fn piece_end(text: &[u8]) -> usize {
     text.len()
 }
 
-// Writes lines of JSON, piece by piece.
+// Writes lines of JSON, piece by piece: as they are, where no sign of a piece is to be escaped.
 pub fn show_lines(rt: &HostRuntime, lines: &Writer) -> Result<(), NoView> {
     if lines.is_refused() {
         return Err(NoView::Memory);
@@ -81,9 +81,13 @@ pub fn show_lines(rt: &HostRuntime, lines: &Writer) -> Result<(), NoView> {
             break;
         }
         let end = piece_end(rest).min(rest.len());
-        piece.clear();
-        add_escaped(&rest[..end], &mut piece);
-        send(rt, &piece)?;
+        if are_plain(&rest[..end]) {
+            send_if(rt, true, &rest[..end])?;
+        } else {
+            piece.clear();
+            add_escaped(&rest[..end], &mut piece);
+            send(rt, &piece)?;
+        }
         rest = &rest[end..];
     }
     Ok(())

@@ -3,6 +3,7 @@ ghost use Rattle.std.specs.Prelude.{◌≡◌, [], false};
 ghost use Rattle.view_walk.specs.Walks.{SameModel};
 
 use crate::asking::run_asking;
+use crate::lines::run_lines;
 use crate::opened::Files;
 use crate::output::{show, show_lines};
 use crate::serving::run_driven;
@@ -10,30 +11,27 @@ use crate::stop::{Device, NoView};
 use crate::telling::shown_name;
 use crate::trails::Led;
 use crate::writing::PageFile;
-use devices::Source;
 use program_files::reading::ReadChoices;
 use program_files::telling::tell_misfit;
 use rand_pcg::Pcg32;
 use session::Answer;
 use std::io;
 use view_foreign::escaped::add_escaped;
-use view_json::lines::add_start;
 use view_page::page::{Contents, add_page};
-use view_run::lines::{Sheet, add_next};
+use view_run::lines::Sheet;
 use view_run::next::is_misfit;
 use view_run::plain::run;
 use view_run::steps::add_step;
 use view_session::charted::{add_chart, most_alive};
 use view_session::notes::Notes;
 use view_session::replay::{Along, Reading, Replay};
-use view_session::seen::picture_of;
 use view_session::told::Told;
 use view_text::writer::Writer;
 use view_walk::walk::Walk;
 use view_words::{Asked, Form};
 
 // So many bytes are written at once.
-const AT_ONCE: usize = 60_000;
+pub const AT_ONCE: usize = 60_000;
 
 // The choices of a run: along a trail, of a file or of standard input, or of a generator.
 fn replay_of(
@@ -178,96 +176,6 @@ fn run_chart(
     write_chart(rt, walk, replay, ran.most, ran.end)
 }
 
-// Writes the line of a state with which lines begin.
-pub fn begin(walk: &Walk<'_, '_>, asked: &Asked, sheet: &mut Sheet) -> Result<(), NoView> {
-    let moves = walk.moves()?;
-    let picture = picture_of(walk.world());
-    add_start(
-        &picture,
-        name_of(shown_name(asked)),
-        asked.is_lossy,
-        moves.as_slice(),
-        &mut sheet.shown,
-        &mut sheet.lines,
-    )?;
-    Ok(())
-}
-
-// Takes the steps before those whose lines are wanted. Why the run ends on the way, where it does: then its last lines are there.
-fn skip<S: Source>(
-    walk: &mut Walk<'_, '_>,
-    replay: &mut Replay<S>,
-    asked: &Asked,
-    sheet: &mut Sheet,
-) -> Result<Option<&'static str>, NoView>
-    ensures { SameModel walk.old walk.new }
-{
-    for _turn in 0..asked.from {
-        let end = add_next(walk, replay, asked.limit as usize, sheet)?;
-        if end.is_some() {
-            return Ok(end);
-        }
-        sheet.lines.clear();
-        sheet.items.clear();
-    }
-    Ok(None)
-}
-
-// Goes behind the steps whose lines are not wanted, and writes the line of the state there, and the last lines of a run that ends on the way. Why it does.
-pub fn begin_behind<S: Source>(
-    rt: &HostRuntime,
-    walk: &mut Walk<'_, '_>,
-    replay: &mut Replay<S>,
-    asked: &Asked,
-    sheet: &mut Sheet,
-) -> Result<Option<&'static str>, NoView>
-    ensures { SameModel walk.old walk.new }
-{
-    let end = skip(walk, replay, asked, sheet)?;
-    let mut last = Writer::new(rt.alloc());
-    last.join(&sheet.lines);
-    sheet.lines.clear();
-    sheet.show_anew();
-    begin(walk, asked, sheet)?;
-    sheet.lines.join(&last);
-    flush(rt, true, sheet)?;
-    Ok(end)
-}
-
-// Writes what there is of the lines, where they are not kept for a page.
-fn flush(rt: &HostRuntime, is_kept: bool, sheet: &mut Sheet) -> Result<(), NoView> {
-    if sheet.lines.is_refused() || sheet.items.is_refused() {
-        return Err(NoView::Memory);
-    }
-    if !is_kept && sheet.lines.len() > AT_ONCE {
-        show_lines(rt, &sheet.lines)?;
-        sheet.lines.clear();
-        sheet.items.clear();
-    }
-    Ok(())
-}
-
-// Takes steps until a walk has so many, or goes no further, and writes each. Why it goes no further.
-pub fn go_on<S: Source>(
-    rt: &HostRuntime,
-    walk: &mut Walk<'_, '_>,
-    replay: &mut Replay<S>,
-    limit: usize,
-    is_kept: bool,
-    sheet: &mut Sheet,
-) -> Result<&'static str, NoView>
-    ensures { SameModel walk.old walk.new }
-{
-    for _turn in 0..u64::MAX {
-        let end = add_next(walk, replay, limit, sheet)?;
-        flush(rt, is_kept, sheet)?;
-        if let Some(end) = end {
-            return Ok(end);
-        }
-    }
-    Ok("step limit")
-}
-
 // Writes the page of a run.
 fn write_page(
     rt: &HostRuntime,
@@ -305,11 +213,7 @@ fn run_sheet(
     ensures { SameModel walk.old walk.new }
 {
     let mut sheet = sheet_of(rt, replay);
-    let limit = asked.limit as usize;
-    let end = match begin_behind(rt, walk, replay, asked, &mut sheet)? {
-        Some(end) => end,
-        None => go_on(rt, walk, replay, limit, page.is_some(), &mut sheet)?,
-    };
+    let end = run_lines(rt, walk, replay, asked, page.is_some(), &mut sheet)?;
     if asked.form == Form::Json {
         show_lines(rt, &sheet.lines)?;
     }

@@ -2,9 +2,10 @@
 ghost use Rattle.std.specs.Prelude.{◌≤◌, length};
 ghost use Rattle.view_walk.specs.Walks.{SameModel};
 
+use crate::lines::go_on;
 use crate::opened::Files;
 use crate::output::show_lines;
-use crate::runs::{go_on, name_of, sheet_of, tell_choices, why_unread};
+use crate::runs::{name_of, sheet_of, tell_choices, why_unread};
 use crate::shown::without_end;
 use crate::stop::{Device, NoView, failed};
 use crate::telling::shown_name;

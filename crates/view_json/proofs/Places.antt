@@ -3,7 +3,7 @@ use Rattle.std.proofs.Common.{◌≡◌, ◌<◌, ◌≤◌, ◌+◌, ℕ, zero,
 use Rattle.std.proofs.lemmas.Bool.{true≢false}
 use Rattle.std.proofs.lemmas.Bool.Decides.{nat_tests}
 use Rattle.std.specs.List.{position, position_or_len}
-use Rattle.view_json.specs.Places.{passes_at, place_by}
+use Rattle.view_json.specs.Places.{passes_at}
 
 -- none of the first so many passes
 abbrev pub NoneOf : {X : Type 0} → (X → Bool) → List X → ℕ → Type 0
@@ -26,22 +26,20 @@ none_len test (x ∷ xs) before =
     let more : position_or_len test (x ∷ xs) ≡ 1 + position_or_len test xs = ap (λ (b : Bool). cond (not b) (1 + position_or_len test xs) 0) none in
     omega (arith, more, rest)
 
--- the place of the last does not pass: the first that does is found
-pub found : {X : Type 0} (test : X → Bool) (xs : List X) (last i : ℕ) → passes_at test xs last ≡ false → NoneOf test xs i → passes_at test xs i ≡ true
-    → Some i ≡ place_by test xs last
-found test xs last i other before at =
+-- the first that passes is found
+pub found : {X : Type 0} (test : X → Bool) (xs : List X) (i : ℕ) → NoneOf test xs i → passes_at test xs i ≡ true → Some i ≡ position test xs
+found test xs i before at =
     let p = first_len test xs i before at in
     let here : nat_lt i (length xs) ≡ true = let l = p.1 in grind (arith, nat_tests, l) in
     let is : position test xs ≡ Some i =
     ap (λ (n : ℕ). cond (nat_lt n (length xs)) (Some n) None) p.0 ∙ ap (λ (b : Bool). cond b (Some i) None) here in
-    sym (ap (λ (b : Bool). cond b (Some last) (position test xs)) other ∙ is)
+    sym is
 
 -- or there is none
-pub none_found : {X : Type 0} (test : X → Bool) (xs : List X) (last : ℕ) → passes_at test xs last ≡ false → NoneOf test xs (length xs)
-    → None ≡ place_by test xs last
-none_found test xs last other before =
+pub none_found : {X : Type 0} (test : X → Bool) (xs : List X) → NoneOf test xs (length xs) → None ≡ position test xs
+none_found test xs before =
     let n = length xs in
     let out : nat_lt n n ≡ false = grind (arith, nat_tests) in
     let is : position test xs ≡ None =
     ap (λ (m : ℕ). cond (nat_lt m n) (Some m) None) (none_len test xs before) ∙ ap (λ (b : Bool). cond b (Some n) None) out in
-    sym (ap (λ (b : Bool). cond b (Some last) (position test xs)) other ∙ is)
+    sym is

@@ -54,7 +54,6 @@ pub record IsSeen (s : State) (k : Pick) (x : Seen) : Type 0 where
   pub line : x.line ≡ offered_line s k
   pub text : x.text.now ≡ whole_text s k
   pub next : x.next ≡ next_line s k
-  pub deals : x.deals ≡ deals_at s k
 
 -- the same of another pick
 abbrev pub of_pick : Pick → Known → Known

@@ -1,15 +1,10 @@
 -- Where something stands among what was written last, and where one more goes.
-use Rattle.std.specs.Prelude.{ℕ, ◌+◌, Bool, false, ltb, if◌then◌else◌, List, slice_get, Option, Some}
+use Rattle.std.specs.Prelude.{ℕ, ◌+◌, Bool, false, ltb, if◌then◌else◌, List, slice_get}
 use Rattle.std.specs.Option.{option_map_or}
-use Rattle.std.specs.List.{position}
 
 -- whether what stands at a place passes
 abbrev pub passes_at : {X : Type 0} → (X → Bool) → List X → ℕ → Bool
 passes_at test xs at = option_map_or test (slice_get xs at) false
-
--- the place of one that passes: that of the last of all, or else the first
-abbrev pub place_by : {X : Type 0} → (X → Bool) → List X → ℕ → Option ℕ
-place_by test xs last = if passes_at test xs last then Some last else position test xs
 
 -- how many are kept of so many that are to be written
 abbrev pub most : ℕ → ℕ

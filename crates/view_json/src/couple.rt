@@ -1,6 +1,6 @@
 //! Rendezvous as objects: what was written of one is written again for the next that does the same.
 
-ghost use Rattle.std.specs.Prelude.{◌≡◌, Bool, true, codes};
+ghost use Rattle.std.specs.Prelude.{◌≡◌, Bool, true, false, codes};
 ghost use Rattle.promela_run.specs.declared.moves.Move.TheVariants.{Pair};
 ghost use Rattle.promela_run.specs.State.{State};
 ghost use Rattle.view_tokens.specs.Printed.{Writes};
@@ -61,14 +61,11 @@ pub(crate) fn are_alike(last: &Couple, of: Meeting<'_>) -> bool
         && is_alike(&last.first, of.sender.process, of.first)
 }
 
-// Whether a rendezvous has the same object.
+// Whether a rendezvous of the same processes at the same offers has the same object.
 fn is_same(picture: &Picture<'_, '_, '_>, of: Meeting<'_>, last: &Couple) -> bool
-    ensures first { result ≡ true → alike last.now.first of.entry.sender.process of.entry.first ≡ true }
-    ensures partner { result ≡ true → alike last.now.partner of.entry.receiver.process of.entry.partner ≡ true }
+    ensures { result ≡ true → last.now.whole.refused ≡ false }
 {
-    are_alike(last, of)
-        && !last.whole.is_refused()
-        && last.deal.is_of(picture, of.sender, of.receiver, of.is_late)
+    !last.whole.is_refused() && last.deal.is_of(picture, of.sender, of.receiver, of.is_late)
 }
 
 // Writes the receiver of a rendezvous.
@@ -137,10 +134,12 @@ fn go_on(of: Meeting<'_>, last: &mut Couple)
     last.deal.go_on(of.sender, of.is_late);
 }
 
-// Writes a rendezvous, where it is not the same as before.
+// Writes a rendezvous that is seen as this was, where it is not the same as before.
 fn settle(picture: &Picture<'_, '_, '_>, of: Meeting<'_>, last: &mut Couple)
     requires meets { Meets picture.now last.old }
     requires seen { AreSeen picture.now of }
+    requires first { alike last.old.first of.sender.process of.first ≡ true }
+    requires partner { alike last.old.partner of.receiver.process of.partner ≡ true }
     ensures meets { Meets picture.now last.new }
     ensures sender { last.new.first.pick ≡ of.entry.sender }
     ensures receiver { last.new.partner.pick ≡ of.entry.receiver }
@@ -150,6 +149,35 @@ fn settle(picture: &Picture<'_, '_, '_>, of: Meeting<'_>, last: &mut Couple)
         return;
     }
     renew(picture, of, last);
+}
+
+/// Writes a rendezvous again, where this was written before of one that is seen so.
+pub(crate) fn add_again(
+    picture: &Picture<'_, '_, '_>,
+    json: &mut Json,
+    of: Meeting<'_>,
+    last: &mut Couple,
+)
+    requires meets { Meets picture.now last.old }
+    requires seen { AreSeen picture.now of }
+    requires first { alike last.old.first of.sender.process of.first ≡ true }
+    requires partner { alike last.old.partner of.receiver.process of.partner ≡ true }
+    ensures choice { AddsChoice picture.now (Pair of.entry.sender of.entry.receiver of.entry.is_late) json.old json.new }
+    ensures meets { Meets picture.now last.new }
+{
+    settle(picture, of, last);
+    json.join(&last.whole);
+}
+
+// Writes a rendezvous that is not known.
+fn add_anew(picture: &Picture<'_, '_, '_>, json: &mut Json, of: Meeting<'_>, last: &mut Couple)
+    requires meets { Meets picture.now last.old }
+    requires seen { AreSeen picture.now of }
+    ensures choice { AddsChoice picture.now (Pair of.entry.sender of.entry.receiver of.entry.is_late) json.old json.new }
+    ensures meets { Meets picture.now last.new }
+{
+    renew(picture, of, last);
+    json.join(&last.whole);
 }
 
 /// Writes a rendezvous, where this was written before.
@@ -164,6 +192,9 @@ pub(crate) fn add_couple(
     ensures choice { AddsChoice picture.now (Pair of.entry.sender of.entry.receiver of.entry.is_late) json.old json.new }
     ensures meets { Meets picture.now last.new }
 {
-    settle(picture, of, last);
-    json.join(&last.whole);
+    if are_alike(last, of) {
+        add_again(picture, json, of, last);
+    } else {
+        add_anew(picture, json, of, last);
+    }
 }

@@ -1,13 +1,14 @@
-//! Rendezvous as objects, each written again where it was among the last few.
+//! Rendezvous as objects, each written again where it was among the last few: first the last of all is asked.
 
 ghost use Rattle.std.specs.Prelude.{◌≡◌, ◌<◌, [], All, length};
+ghost use Rattle.std.specs.List.{position};
 ghost use Rattle.promela_run.specs.declared.moves.Move.TheVariants.{Pair};
 ghost use Rattle.promela_run.specs.State.{State};
 ghost use Rattle.view_json.specs.Choices.{AddsChoice};
 ghost use Rattle.view_json.specs.Before.{Meets, AreSeen, couple_alike};
-ghost use Rattle.view_json.specs.Places.{passes_at, place_by};
+ghost use Rattle.view_json.specs.Places.{passes_at};
 
-use crate::couple::{Couple, Meeting, add_couple, are_alike};
+use crate::couple::{Couple, Meeting, add_again, add_couple, are_alike};
 use crate::known::seen_at;
 use crate::singles::{behind, most_of};
 use promela_run::moves::Pick;
@@ -46,13 +47,10 @@ fn is_at(all: &[Couple], at: usize, of: Meeting<'_>) -> bool
     }
 }
 
-// The place of a rendezvous: first that of the last of all is asked.
-fn place_of(all: &[Couple], last: usize, of: Meeting<'_>) -> Option<usize>
-    ensures { result ≡ place_by (couple_alike of.entry) all.now last }
+// The place of a rendezvous.
+fn place_of(all: &[Couple], of: Meeting<'_>) -> Option<usize>
+    ensures { result ≡ position (couple_alike of.entry) all.now }
 {
-    if is_at(all, last, of) {
-        return Some(last);
-    }
     for at in 0..all.len() {
         if is_at(all, at, of) {
             return Some(at);
@@ -80,7 +78,7 @@ fn make_place(pick: Pick, last: &mut Couples) -> usize
 fn place_for(of: Meeting<'_>, last: &mut Couples) -> usize
     ensures { (s : State) → All (Meets s) last.old.all.items → All (Meets s) last.new.all.items }
 {
-    match place_of(last.all.as_slice(), last.at, of) {
+    match place_of(last.all.as_slice(), of) {
         Some(at) => at,
         None => make_place(of.sender, last),
     }
@@ -127,6 +125,12 @@ pub(crate) fn add_pair(
         first: seen_at(picture, sender),
         partner: seen_at(picture, receiver),
     };
+    let at = last.at;
+    if at < last.all.len() {
+        if are_alike(&last.all[at], of) {
+            return add_again(picture, json, of, &mut last.all[at]);
+        }
+    }
     let at = place_for(of, last);
     add_at(picture, json, of, at, last);
 }

@@ -27,13 +27,12 @@ pub(crate) struct Known {
     pub written: Json,
 }
 
-/// An offer: its line and text, the line at which its process stands behind it, and whether it sends or receives.
+/// An offer: its line and text, and the line at which its process stands behind it.
 #[derive(Clone, Copy)]
 pub(crate) struct Seen<'p> {
     pub line: u32,
     pub text: &'p [u8],
     pub next: u32,
-    pub deals: bool,
 }
 
 impl Known {
@@ -81,7 +80,6 @@ fn seen_from<'p>(live: &Live<'p, '_>, seat: Seat, pick: Pick) -> Seen<'p>
     ensures line { result.line ≡ offered_line live.now.state pick }
     ensures text { result.text.now ≡ whole_text live.now.state pick }
     ensures next { result.next ≡ next_line live.now.state pick }
-    ensures deals { result.deals ≡ deals_at live.now.state pick }
 {
     match offer_of(live, pick) {
         Some(offer) => {
@@ -90,7 +88,6 @@ fn seen_from<'p>(live: &Live<'p, '_>, seat: Seat, pick: Pick) -> Seen<'p>
                 line: offer.body.graph.offer_line(offer.edge.statement),
                 text: offer.body.graph.text(offer.edge.statement),
                 next: line_at_seat(live, Seat { node, ..seat }),
-                deals: deals(offer.body.basic(*offer.edge)),
             }
         }
         None => nothing(),
@@ -101,13 +98,11 @@ fn nothing<'p>() -> Seen<'p>
     ensures line { result.line ≡ 0 }
     ensures text { result.text.now ≡ [] }
     ensures next { result.next ≡ 0 }
-    ensures deals { result.deals ≡ false }
 {
     Seen {
         line: 0,
         text: &[],
         next: 0,
-        deals: false,
     }
 }
 
@@ -115,11 +110,20 @@ fn seen_in_live<'p>(live: &Live<'p, '_>, pick: Pick) -> Seen<'p>
     ensures line { result.line ≡ offered_line live.now.state pick }
     ensures text { result.text.now ≡ whole_text live.now.state pick }
     ensures next { result.next ≡ next_line live.now.state pick }
-    ensures deals { result.deals ≡ deals_at live.now.state pick }
 {
     match seat_at(live.seats(), pick.process) {
         Some(seat) => seen_from(live, *seat, pick),
         None => nothing(),
+    }
+}
+
+/// Whether the offer that a pick names sends or receives.
+pub(crate) fn deals_at(live: &Live<'_, '_>, pick: Pick) -> bool
+    ensures { result ≡ deals_at live.now.state pick }
+{
+    match offer_of(live, pick) {
+        Some(offer) => deals(offer.body.basic(*offer.edge)),
+        None => false,
     }
 }
 

@@ -1,15 +1,16 @@
-//! Moves of one process as objects, each written again where it was among the last few.
+//! Moves of one process as objects, each written again where it was among the last few: first the last of all is asked.
 
 ghost use Rattle.std.specs.Prelude.{◌≡◌, ◌<◌, [], All, length};
+ghost use Rattle.std.specs.List.{position};
 ghost use Rattle.promela_run.specs.declared.moves.Move.TheVariants.{Alone};
 ghost use Rattle.promela_run.specs.State.{State};
 ghost use Rattle.view_json.specs.Choices.{AddsChoice};
 ghost use Rattle.view_json.specs.Known.{IsSeen};
 ghost use Rattle.view_json.specs.Before.{Tells, single_alike};
-ghost use Rattle.view_json.specs.Places.{passes_at, place_by, most, place_behind};
+ghost use Rattle.view_json.specs.Places.{passes_at, most, place_behind};
 
 use crate::known::{Seen, is_alike, seen_at};
-use crate::single::{Single, add_single};
+use crate::single::{Single, add_again, add_single};
 use promela_run::moves::Pick;
 use std::alloc::Global;
 use view_cells::picture::Picture;
@@ -58,13 +59,10 @@ fn is_at(all: &[Single], at: usize, process: usize, seen: Seen<'_>) -> bool
     }
 }
 
-// The place of a move that is seen so: first that of the last of all is asked.
-fn place_of(all: &[Single], last: usize, process: usize, seen: Seen<'_>) -> Option<usize>
-    ensures { result ≡ place_by (single_alike process seen.entry) all.now last }
+// The place of a move that is seen so.
+fn place_of(all: &[Single], process: usize, seen: Seen<'_>) -> Option<usize>
+    ensures { result ≡ position (single_alike process seen.entry) all.now }
 {
-    if is_at(all, last, process, seen) {
-        return Some(last);
-    }
     for at in 0..all.len() {
         if is_at(all, at, process, seen) {
             return Some(at);
@@ -99,7 +97,7 @@ fn make_place(pick: Pick, last: &mut Singles) -> usize
 fn place_for(pick: Pick, seen: Seen<'_>, last: &mut Singles) -> usize
     ensures { (s : State) → All (Tells s) last.old.all.items → All (Tells s) last.new.all.items }
 {
-    match place_of(last.all.as_slice(), last.at, pick.process, seen) {
+    match place_of(last.all.as_slice(), pick.process, seen) {
         Some(at) => at,
         None => make_place(pick, last),
     }
@@ -140,6 +138,12 @@ pub(crate) fn add_alone(
     ensures tell { All (Tells picture.now) last.new.all.items }
 {
     let seen = seen_at(picture, pick);
+    let at = last.at;
+    if at < last.all.len() {
+        if is_alike(&last.all[at].first, pick.process, seen) {
+            return add_again(picture, json, pick, is_late, seen, &mut last.all[at]);
+        }
+    }
     let at = place_for(pick, seen, last);
     last.at = at;
     add_at(picture, json, pick, is_late, seen, last);

@@ -1,14 +1,14 @@
-//! The texts of moves, each as a string, written again where it was among the last few.
+//! The texts of moves, each as a string, written again where it was among the last few: first the last of all is asked.
 
 ghost use Rattle.std.specs.Prelude.{◌≡◌, ◌<◌, Bool, true, false, [], All, length};
 ghost use Rattle.promela_run.specs.declared.moves.Move.TheVariants.{Alone, Pair};
-ghost use Rattle.std.specs.List.{flat_map};
+ghost use Rattle.std.specs.List.{flat_map, position};
 ghost use Rattle.promela_run.specs.State.{State};
 ghost use Rattle.promela_run.specs.World.{move_text};
 ghost use Rattle.view_tokens.specs.Printed.{Writes};
 ghost use Rattle.view_json.specs.Objects.{text};
 ghost use Rattle.view_json.specs.Texts.{Reads, TellsMove, IsLine, same_parts};
-ghost use Rattle.view_json.specs.Places.{passes_at, place_by};
+ghost use Rattle.view_json.specs.Places.{passes_at};
 
 use crate::known::text_at;
 use crate::objects::whole;
@@ -234,13 +234,10 @@ fn is_at(all: &[Line], at: usize, parts: &Parts<'_>) -> bool
     }
 }
 
-// The place of a text that has these parts: first that of the last of all is asked.
-fn place_of(all: &[Line], last: usize, parts: &Parts<'_>) -> Option<usize>
-    ensures { result ≡ place_by (λ line. same_parts line parts.now) all.now last }
+// The place of a text that has these parts.
+fn place_of(all: &[Line], parts: &Parts<'_>) -> Option<usize>
+    ensures { result ≡ position (λ line. same_parts line parts.now) all.now }
 {
-    if is_at(all, last, parts) {
-        return Some(last);
-    }
     for at in 0..all.len() {
         if is_at(all, at, parts) {
             return Some(at);
@@ -268,7 +265,7 @@ fn make_place(last: &mut Lines) -> usize
 fn place_for(parts: &Parts<'_>, last: &mut Lines) -> usize
     ensures { (s : State) → All (Reads s) last.old.all.items → All (Reads s) last.new.all.items }
 {
-    match place_of(last.all.as_slice(), last.at, parts) {
+    match place_of(last.all.as_slice(), parts) {
         Some(at) => at,
         None => make_place(last),
     }
@@ -304,6 +301,13 @@ fn add_text(picture: &Picture<'_, '_, '_>, json: &mut Json, m: Move, last: &mut 
 {
     let live = picture.live();
     let parts = parts_of(live, m);
+    let at = last.at;
+    if at < last.all.len() {
+        let line = &last.all[at];
+        if are_same(line, &parts) {
+            return json.join(&line.written);
+        }
+    }
     let at = place_for(&parts, last);
     add_at(picture, json, m, parts, at, last);
 }

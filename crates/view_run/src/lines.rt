@@ -1,6 +1,7 @@
 //! A run as lines of JSON, and as items of a list.
 
 ghost use Rattle.std.specs.Prelude.{◌≡◌, [], false};
+ghost use Rattle.promela_run.specs.World as world;
 ghost use Rattle.view_walk.specs.Walks.{SameModel};
 
 use crate::next::{Next, follow, move_at};
@@ -254,6 +255,28 @@ fn add_ending(
     Ok(())
 }
 
+/// Takes the next step of a run and writes it, or writes its end, where these are the moves of the state where the walk stands. Why it ends, where it does.
+pub fn add_next_of<S: Source>(
+    walk: &mut Walk<'_, '_>,
+    moves: &[Move],
+    replay: &mut Replay<S>,
+    limit: usize,
+    sheet: &mut Sheet,
+) -> Result<Option<&'static str>, Broken>
+    requires { moves.now ≡ world.world_moves walk.old.state }
+    ensures { SameModel walk.old walk.new }
+{
+    let alloc = sheet.lines.allocator();
+    match follow(alloc, walk, moves, replay, limit)? {
+        Next::Take(choice) => Ok(take_choice(walk, moves, choice, sheet)?),
+        Next::End(end) => {
+            add_ending(walk, end, moves, sheet)?;
+            add_end_item(end.as_bytes(), &mut sheet.items);
+            Ok(Some(end))
+        }
+    }
+}
+
 /// Takes the next step of a run and writes it, or writes its end. Why it ends, where it does.
 pub fn add_next<S: Source>(
     walk: &mut Walk<'_, '_>,
@@ -264,13 +287,5 @@ pub fn add_next<S: Source>(
     ensures { SameModel walk.old walk.new }
 {
     let moves = walk.moves()?;
-    let alloc = sheet.lines.allocator();
-    match follow(alloc, walk, moves.as_slice(), replay, limit)? {
-        Next::Take(choice) => Ok(take_choice(walk, moves.as_slice(), choice, sheet)?),
-        Next::End(end) => {
-            add_ending(walk, end, moves.as_slice(), sheet)?;
-            add_end_item(end.as_bytes(), &mut sheet.items);
-            Ok(Some(end))
-        }
-    }
+    add_next_of(walk, moves.as_slice(), replay, limit, sheet)
 }

@@ -1,12 +1,9 @@
-use Rattle.std.proofs.Common.{◌∙◌, ap, sym, subst, Option, false}
+use Rattle.std.proofs.Common.{◌∙◌, ap, sym, subst, Option}
 use Rattle.std.specs.Prelude.{IfSome, option_map}
 use Rattle.run_search.specs.declared.picked.Offered.{Offered}
 use Rattle.run_search.specs.Picked.{IsPicked}
 use Rattle.run_state.specs.Standing.{shows}
 use Rattle.view_json.proofs.Choices.{next_is}
-use Rattle.std.specs.Option.{option_map_or}
-use Rattle.promela_process.specs.Offers.{Offer}
-use Rattle.view_json.specs.Known.{has_deal}
 use Rattle.view_json.proofs.known.seen_from.Goals as goal
 
 pub returns-in-Some-clause-next : goal.returns-in-Some-clause-next
@@ -17,8 +14,3 @@ returns-in-Some-clause-next c =
     let offer = ap (λ (o : Option Offered). option_map (λ (x : Offered). shows x.body x.edge.now) o) (sym c.in-Some.is) ∙ c.picked.ensures.offer in
     let is = subst (λ (o : Option Offered). IfSome o (λ (x : Offered). IsPicked s k x.body)) c.in-Some.is c.picked.ensures.is in
     c.line_at_seat.ensures ∙ next_is s k c.args.seat it.body it.edge.now c.requires offer is
-
-pub returns-in-Some-clause-deals : goal.returns-in-Some-clause-deals
-returns-in-Some-clause-deals c =
-    let offer = ap (λ (o : Option Offered). option_map (λ (x : Offered). shows x.body x.edge.now) o) (sym c.in-Some.is) ∙ c.picked.ensures.offer in
-    c.deals.ensures ∙ ap has_deal c.basic.ensures ∙ ap (λ (o : Option Offer). option_map_or (λ (x : Offer). has_deal x.basic) o false) offer

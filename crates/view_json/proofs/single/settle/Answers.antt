@@ -6,7 +6,7 @@ pub returns-then-is_same-clause-tells : goal.returns-then-is_same-clause-tells
 returns-then-is_same-clause-tells c =
     let s = c.args.picture.now in
     let first = c.args.last.now.first in
-    let same = c.is_same.ensures c.if-is_same.true in
+    let same = c.requires.alike in
     let of = alike_is s first c.args.pick c.args.seen c.requires.seen c.requires.tells.first same in record {
       first = λ calm. of;
       effect = c.requires.tells.effect;

@@ -4,13 +4,12 @@ use Rattle.view_json.specs.Texts.{same_parts}
 use Rattle.view_json.proofs.Places.{found, none_found}
 use Rattle.view_json.proofs.texts.place_of.Goals as goal
 
-pub returns-then-is_at-2 : goal.returns-then-is_at-2
-returns-then-is_at-2 c =
-    found (λ (x : Line). same_parts x c.args.parts.now) c.args.all.now c.args.last c.loop-at.at (sym c.is_at.ensures ∙ c.if-is_at.false) c.loop-at.invariant.1
-    (sym c.is_at-in-loop-at.ensures ∙ c.if-is_at-2.true)
+pub returns-then-is_at : goal.returns-then-is_at
+returns-then-is_at c =
+    found (λ (x : Line). same_parts x c.args.parts.now) c.args.all.now c.loop-at.at c.loop-at.invariant.1 (sym c.is_at.ensures ∙ c.if-is_at.true)
 
 pub returns : goal.returns
 returns c =
-    none_found (λ (x : Line). same_parts x c.args.parts.now) c.args.all.now c.args.last (sym c.is_at.ensures ∙ c.if-is_at.false) (λ k l.
+    none_found (λ (x : Line). same_parts x c.args.parts.now) c.args.all.now (λ k l.
     let end = c.loop-at-test.false in
     c.loop-at.invariant.1 k (omega (arith, l, end)))

@@ -3,15 +3,15 @@ use Rattle.promela_run.specs.declared.moves.Pick.{Pick}
 use Rattle.promela_run.specs.declared.moves.Move.TheVariants.{Pair}
 use Rattle.view_tokens.specs.Printed.{Writes}
 use Rattle.view_json.specs.Choices.{choice}
-use Rattle.view_json.proofs.couple.add_couple.Goals as goal
+use Rattle.view_json.proofs.couple.add_anew.Goals as goal
 
 pub returns-clause-choice : goal.returns-clause-choice
 returns-clause-choice c =
     let s = c.args.picture.now in
     let of = c.args.of in
-    let told = c.settle.ensures.meets in (
+    let told = c.renew.ensures.meets in (
       told.effect,
-      subst (λ (j : Pick). Writes c.args.json.now c.join.new.self (choice s (Pair of.sender j of.is_late) told.effect)) c.settle.ensures.receiver
-          (subst (λ (k : Pick). Writes c.args.json.now c.join.new.self (choice s (Pair k c.settle.new.last.partner.pick of.is_late) told.effect)) c.settle.ensures.sender
+      subst (λ (j : Pick). Writes c.args.json.now c.join.new.self (choice s (Pair of.sender j of.is_late) told.effect)) c.renew.ensures.receiver
+          (subst (λ (k : Pick). Writes c.args.json.now c.join.new.self (choice s (Pair k c.renew.new.last.partner.pick of.is_late) told.effect)) c.renew.ensures.sender
           (c.join.ensures.known _ told.whole)),
     )
