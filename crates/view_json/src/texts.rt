@@ -293,14 +293,19 @@ fn add_at(
     }
 }
 
-// Writes the text of a move, where this was written before.
-fn add_text(picture: &Picture<'_, '_, '_>, json: &mut Json, m: Move, last: &mut Lines)
-    requires { All (Reads picture.now) last.old.all.items }
+// Writes the text of a move that has these parts, where this was written before: first the last of all is asked.
+fn add_parts(
+    picture: &Picture<'_, '_, '_>,
+    json: &mut Json,
+    m: Move,
+    parts: Parts<'_>,
+    last: &mut Lines,
+)
+    requires read { All (Reads picture.now) last.old.all.items }
+    requires tells { TellsMove picture.now m parts }
     ensures read { All (Reads picture.now) last.new.all.items }
     ensures written { Writes json.old json.new (text (move_text picture.now m)) }
 {
-    let live = picture.live();
-    let parts = parts_of(live, m);
     let at = last.at;
     if at < last.all.len() {
         let line = &last.all[at];
@@ -310,6 +315,16 @@ fn add_text(picture: &Picture<'_, '_, '_>, json: &mut Json, m: Move, last: &mut 
     }
     let at = place_for(&parts, last);
     add_at(picture, json, m, parts, at, last);
+}
+
+// Writes the text of a move, where this was written before.
+fn add_text(picture: &Picture<'_, '_, '_>, json: &mut Json, m: Move, last: &mut Lines)
+    requires { All (Reads picture.now) last.old.all.items }
+    ensures read { All (Reads picture.now) last.new.all.items }
+    ensures written { Writes json.old json.new (text (move_text picture.now m)) }
+{
+    let parts = parts_of(picture.live(), m);
+    add_parts(picture, json, m, parts, last);
 }
 
 /// Writes the texts of moves.
