@@ -8,7 +8,7 @@ use Rattle.check_names.specs.Places.{IsKept, stands}
 use Rattle.check_names.specs.Entry.{Entry, found}
 use Rattle.declared_names.specs.Sites.{Sites, sites, labels, owned}
 use Rattle.declared_names.specs.Meant.{Known}
-use Rattle.declared_names.specs.declared.meant.Known as code
+use Rattle.declared_names.specs.declared.meant.KnownNames as code
 
 abbrev pub sites_of : Places ℕ → Sites
 sites_of ps o n = stands ps.numbers ps.places o n
