@@ -18,7 +18,7 @@ abbrev pub told : List Entry → Places ℕ → Known
 told es ps = record { names = found es; sites = sites_of ps }
 
 -- the same of what the code looks names up in
-abbrev pub told_in : code.Known → Known
+abbrev pub told_in : code.KnownNames → Known
 told_in k = told k.table.now k.sites.now
 
 -- the places are those where marks declare names

@@ -52,13 +52,13 @@ nothing_by q page m (Err f) h = tt
 nothing_by q page m (Ok v) h = nothing h
 
 -- the page of a document is answered of
-pub answered_on : {F : Type 0} (q : Question) (d : Document) (u : counting.Unit) (m : Data) (page : Page) → page.text.now ≡ d.known
+pub answered_on : {F : Type 0} (q : Question) (d : Document) (u : counting.ColumnUnit) (m : Data) (page : Page) → page.text.now ≡ d.known
     → page.uri.now ≡ string_bytes d.uri → page.unit ≡ u → (r : Result Value F) → IfOk r (λ v. IsAnswer q page m (view v))
     → IfOk r (λ v. IsAnswerOn q d u m (view v))
 answered_on q d u m page t n c (Err f) h = tt
 answered_on q d u m page t n c (Ok v) h = record { page = page; text_is = t; uri_is = n; unit_is = c; is_answer = h }
 
-pub all_answered_on : {E F : Type 0} (q : Question) (d : Document) (u : counting.Unit) (m : Data) (page : Page) → page.text.now ≡ d.known
+pub all_answered_on : {E F : Type 0} (q : Question) (d : Document) (u : counting.ColumnUnit) (m : Data) (page : Page) → page.text.now ≡ d.known
     → page.uri.now ≡ string_bytes d.uri → page.unit ≡ u → (r : Result (Result Value F) E) → IfOk r (λ a. IfOk a (λ v. IsAnswer q page m (view v)))
     → IfOk r (λ a. IfOk a (λ v. IsAnswerOn q d u m (view v)))
 all_answered_on q d u m page t n c (Err e) h = tt

@@ -74,7 +74,7 @@ pub data IsAnswer (q : Question) (page : Page) (m d : Data) : Type 0 where
       → AreMeant page.text.now names.meant.items → IsToldOf q page names ps d → IsAnswer q page m d
 
 -- A text that is open is asked of as its editor knows it.
-pub record IsAnswerOn (q : Question) (d : Document) (u : counting.Unit) (m v : Data) : Type 0 where
+pub record IsAnswerOn (q : Question) (d : Document) (u : counting.ColumnUnit) (m v : Data) : Type 0 where
   pub page : Page
   pub text_is : page.text.now ≡ d.known
   pub uri_is : page.uri.now ≡ string_bytes d.uri

@@ -9,7 +9,7 @@ use Rattle.text_parts.specs.declared.parts.Coloured.{Coloured}
 use Rattle.text_parts.specs.Going.{at_place, start, stepped, gone, moved}
 use Rattle.text_parts.specs.Coded.{between, five, coded, decoded, place_of, Rises}
 
-gone_append : (u : counting.Unit) (p : EditorPlace) (xs ys : List ℕ) → gone u p (xs ++ ys) ≡ gone u (gone u p xs) ys
+gone_append : (u : counting.ColumnUnit) (p : EditorPlace) (xs ys : List ℕ) → gone u p (xs ++ ys) ≡ gone u (gone u p xs) ys
 gone_append u p [] ys = refl
 gone_append u p (x ∷ xs) ys = gone_append u (stepped u p x) xs ys
 
@@ -28,10 +28,10 @@ one_more true p (suc l) c w =
 one_more false p zero c w = let e : p.column + (c + w) ≡ p.column + c + w = omega arith in ap (at_place p.line) e
 one_more false p (suc l) c w = refl
 
-stepped_behind : (u : counting.Unit) (p q : EditorPlace) (b : ℕ) → moved p (stepped u q b).line (stepped u q b).column ≡ stepped u (moved p q.line q.column) b
+stepped_behind : (u : counting.ColumnUnit) (p q : EditorPlace) (b : ℕ) → moved p (stepped u q b).line (stepped u q b).column ≡ stepped u (moved p q.line q.column) b
 stepped_behind u p q b = one_more (is_line_feed b) p q.line q.column (units_in u b)
 
-gone_behind : (u : counting.Unit) (p q : EditorPlace) (bs : List ℕ) → moved p (gone u q bs).line (gone u q bs).column ≡ gone u (moved p q.line q.column) bs
+gone_behind : (u : counting.ColumnUnit) (p q : EditorPlace) (bs : List ℕ) → moved p (gone u q bs).line (gone u q bs).column ≡ gone u (moved p q.line q.column) bs
 gone_behind u p q [] = refl
 gone_behind u p q (b ∷ bs) = gone_behind u p (stepped u q b) bs ∙ ap (λ (x : EditorPlace). gone u x bs) (stepped_behind u p q b)
 
@@ -55,7 +55,7 @@ up_to text from to h =
     take_behind from (to - from) text ∙ ap (λ (k : ℕ). take k text) e
 
 -- from the place behind some bytes the numbers of a part lead to its place
-leads : (u : counting.Unit) (text : List ℕ) (from to : ℕ) → from ≤ to
+leads : (u : counting.ColumnUnit) (text : List ℕ) (from to : ℕ) → from ≤ to
     → moved (gone u start (take from text)) (gone u start (between text from to)).line (gone u start (between text from to)).column ≡ gone u start (take to text)
 leads u text from to h =
     gone_behind u (gone u start (take from text)) start (between text from to)
@@ -63,7 +63,7 @@ leads u text from to h =
     ∙ sym (gone_append u start (take from text) (between text from to))
     ∙ ap (gone u start) (up_to text from to h)
 
-pub all_lead : (u : counting.Unit) (text : List ℕ) (behind : ℕ) (parts : List Coloured) → Rises text behind parts
+pub all_lead : (u : counting.ColumnUnit) (text : List ℕ) (behind : ℕ) (parts : List Coloured) → Rises text behind parts
     → decoded (gone u start (take behind text)) (coded u text behind parts) ≡ map (place_of u text) parts
 all_lead u text behind [] r = refl
 all_lead u text behind (m ∷ ms) r =
@@ -71,6 +71,6 @@ all_lead u text behind (m ∷ ms) r =
     ap (λ (x : EditorPlace). x ∷ decoded x (coded u text m.at ms)) here
     ∙ ap (λ (l : List EditorPlace). place_of u text m ∷ l) (all_lead u text m.at ms r.1.1)
 
-pub all_lead_there : (u : counting.Unit) (text : List ℕ) (parts : List Coloured) → Rises text 0 parts
+pub all_lead_there : (u : counting.ColumnUnit) (text : List ℕ) (parts : List Coloured) → Rises text 0 parts
     → decoded start (coded u text 0 parts) ≡ map (place_of u text) parts
 all_lead_there u text parts r = all_lead u text 0 parts r

@@ -11,13 +11,13 @@ abbrev pub between : List ℕ → ℕ → ℕ → List ℕ
 between text from to = take (to - from) (drop from text)
 
 -- how far a part lies behind a place, its width, what it is, and nothing more
-abbrev pub five : counting.Unit → List ℕ → ℕ → Coloured → List ℕ
+abbrev pub five : counting.ColumnUnit → List ℕ → ℕ → Coloured → List ℕ
 five u text behind part =
     (gone u start (between text behind part.at)).line ∷ (gone u start (between text behind part.at)).column
     ∷ units u (take part.length (drop part.at text)) ∷ part.sort ∷ 0 ∷ []
 
 -- parts, each behind the one before
-abbrev pub coded : counting.Unit → List ℕ → ℕ → List Coloured → List ℕ
+abbrev pub coded : counting.ColumnUnit → List ℕ → ℕ → List Coloured → List ℕ
 coded u text behind [] = []
 coded u text behind (m ∷ ms) = five u text behind m ++ coded u text m.at ms
 
@@ -27,7 +27,7 @@ decoded p (l ∷ c ∷ w ∷ s ∷ m ∷ ns) = moved p l c ∷ decoded (moved p 
 decoded p ns = []
 
 -- the place of a part
-abbrev pub place_of : counting.Unit → List ℕ → Coloured → EditorPlace
+abbrev pub place_of : counting.ColumnUnit → List ℕ → Coloured → EditorPlace
 place_of u text part = gone u start (take part.at text)
 
 -- each part lies in the text, and not before the one before
