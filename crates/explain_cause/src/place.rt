@@ -2,7 +2,7 @@
 
 ghost use Rattle.std.specs.Prelude.{◌≡◌, ◌≤◌, ◌+◌, length, take, drop};
 
-use crate::cause::{Cause, Finding, Named, Segment};
+use crate::cause::{Finding, Named, Reason, Segment};
 use pml_token::token::{Kind, Token, same_kind};
 
 /// The place of a token.
@@ -54,7 +54,7 @@ pub fn named<'t>(text: &'t [u8], token: &Token<'_>) -> Named<'t> {
 }
 
 /// What is found at a token.
-pub fn at_token<'t>(token: &Token<'_>, cause: Cause<'t>) -> Finding<'t> {
+pub fn at_token<'t>(token: &Token<'_>, cause: Reason<'t>) -> Finding<'t> {
     Finding {
         place: Some(place_of(token)),
         cause,
@@ -62,7 +62,7 @@ pub fn at_token<'t>(token: &Token<'_>, cause: Cause<'t>) -> Finding<'t> {
 }
 
 /// What is found at a place.
-pub fn at_place(place: Segment, cause: Cause<'_>) -> Finding<'_> {
+pub fn at_place(place: Segment, cause: Reason<'_>) -> Finding<'_> {
     Finding {
         place: Some(place),
         cause,
@@ -73,7 +73,7 @@ pub fn at_place(place: Segment, cause: Cause<'_>) -> Finding<'_> {
 pub fn untold<'t>() -> Finding<'t> {
     Finding {
         place: None,
-        cause: Cause::Untold,
+        cause: Reason::Untold,
     }
 }
 

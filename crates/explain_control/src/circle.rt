@@ -5,7 +5,7 @@ ghost use Rattle.std.specs.Bool.{OnTrue};
 ghost use Rattle.pml_control.specs.Ends.{next_of};
 ghost use Rattle.explain_control.specs.Blamed.{Returns};
 
-use crate::site::{Label, Matter, Site};
+use crate::site::{Label, PostMatter, PostSite};
 use pml_control::ends::Ending;
 use std::alloc::{AllocError, Global};
 
@@ -63,10 +63,10 @@ fn far_from(next: &[Option<usize>], from: usize) -> usize {
 }
 
 /// The label that a goto at a post names.
-fn label_at(sites: &[Site], post: usize) -> Option<Label> {
+fn label_at(sites: &[PostSite], post: usize) -> Option<Label> {
     match sites.get(post) {
         Some(site) => match site.matter {
-            Matter::Goto(label) => Some(label),
+            PostMatter::Goto(label) => Some(label),
             _ => None,
         },
         None => None,
@@ -74,7 +74,7 @@ fn label_at(sites: &[Site], post: usize) -> Option<Label> {
 }
 
 /// The first goto in the text of the circle that a post stands in: the one with the greatest post.
-fn first_goto(sites: &[Site], next: &[Option<usize>], from: usize) -> usize {
+fn first_goto(sites: &[PostSite], next: &[Option<usize>], from: usize) -> usize {
     let mut here = from;
     let mut most = from;
     for _ in next {
@@ -90,7 +90,7 @@ fn first_goto(sites: &[Site], next: &[Option<usize>], from: usize) -> usize {
 }
 
 /// The first goto of the circle that the first position in the text from which settling never ends comes to.
-pub fn first_circling(sites: &[Site], next: &[Option<usize>], ends: &[Ending]) -> Option<usize>
+pub fn first_circling(sites: &[PostSite], next: &[Option<usize>], ends: &[Ending]) -> Option<usize>
     ensures { IfSome result (Returns next.now) }
 {
     let start = last_circling(ends)?;
@@ -105,7 +105,7 @@ pub fn first_circling(sites: &[Site], next: &[Option<usize>], ends: &[Ending]) -
 /// The labels that the gotos of a circle name, from this one on.
 pub fn labels_of(
     alloc: Global,
-    sites: &[Site],
+    sites: &[PostSite],
     next: &[Option<usize>],
     goto: usize,
 ) -> Result<Vec<Label>, AllocError> {

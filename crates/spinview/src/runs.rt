@@ -6,7 +6,7 @@ use crate::asking::run_asking;
 use crate::opened::Files;
 use crate::output::{show, show_lines};
 use crate::serving::run_driven;
-use crate::stop::{Device, NoView};
+use crate::stop::{NoView, RunDevice};
 use crate::telling::shown_name;
 use crate::trails::Led;
 use crate::writing::PageFile;
@@ -25,12 +25,12 @@ use view_run::plain::run;
 use view_run::steps::add_step;
 use view_session::charted::{add_chart, most_alive};
 use view_session::notes::Notes;
-use view_session::replay::{Along, Reading, Replay};
+use view_session::replay::{Along, Replay, ReplayReading};
 use view_session::seen::picture_of;
 use view_session::told::Told;
 use view_text::writer::Writer;
 use view_walk::walk::Walk;
-use view_words::{Asked, Form};
+use view_words::{RunForm, Wishes};
 
 // So many bytes are written at once.
 const AT_ONCE: usize = 60_000;
@@ -38,7 +38,7 @@ const AT_ONCE: usize = 60_000;
 // The choices of a run: along a trail, of a file or of standard input, or of a generator.
 fn replay_of(
     rt: &HostRuntime,
-    asked: &Asked,
+    asked: &Wishes,
     files: &mut Files,
     led: Option<Led>,
 ) -> Replay<ReadChoices> {
@@ -46,7 +46,7 @@ fn replay_of(
         return Replay::Along(led.along, led.notes);
     }
     match (files.choices.take(), asked.seed) {
-        (Some(choices), _) => Replay::Read(Reading::new(ReadChoices::new(choices))),
+        (Some(choices), _) => Replay::Read(ReplayReading::new(ReadChoices::new(choices))),
         (None, Some(seed)) => Replay::Chance(Pcg32::new(u64::from(seed), 54)),
         (None, None) => Replay::Along(Along::Stop(Answer::Ended), Notes::new(rt.alloc())),
     }
@@ -71,7 +71,7 @@ pub fn sheet_of(rt: &HostRuntime, replay: &mut Replay<ReadChoices>) -> Sheet
 }
 
 // What the choices are called.
-fn choices_name(asked: &Asked) -> &str {
+fn choices_name(asked: &Wishes) -> &str {
     match &asked.choices {
         Some(name) => name.as_str(),
         None => "standard input",
@@ -88,7 +88,7 @@ fn tell_bad_lines(rt: &HostRuntime, name: &str, count: u32) {
 }
 
 // Says which line of the choices does not fit, and whether some were bad.
-pub fn tell_choices(rt: &HostRuntime, asked: &Asked, replay: &Replay<ReadChoices>, end: &str) {
+pub fn tell_choices(rt: &HostRuntime, asked: &Wishes, replay: &Replay<ReadChoices>, end: &str) {
     let Replay::Read(reading) = replay else {
         return;
     };
@@ -114,12 +114,12 @@ fn same(error: &io::Error) -> io::Error {
 // Why a run stopped; of choices that cannot be read with what the system said of them.
 pub fn why_unread(stop: NoView, replay: &Replay<ReadChoices>) -> NoView {
     match (stop, replay) {
-        (NoView::Failed(Device::Choices, None), Replay::Read(reading)) => {
+        (NoView::Failed(RunDevice::Choices, None), Replay::Read(reading)) => {
             let why = match &reading.devices.source.error {
                 Some(error) => Some(same(error)),
                 None => None,
             };
-            NoView::Failed(Device::Choices, why)
+            NoView::Failed(RunDevice::Choices, why)
         }
         (stop, _) => stop,
     }
@@ -179,7 +179,7 @@ fn run_chart(
 }
 
 // Writes the line of a state with which lines begin.
-pub fn begin(walk: &Walk<'_, '_>, asked: &Asked, sheet: &mut Sheet) -> Result<(), NoView> {
+pub fn begin(walk: &Walk<'_, '_>, asked: &Wishes, sheet: &mut Sheet) -> Result<(), NoView> {
     let moves = walk.moves()?;
     let picture = picture_of(walk.world());
     add_start(
@@ -197,7 +197,7 @@ pub fn begin(walk: &Walk<'_, '_>, asked: &Asked, sheet: &mut Sheet) -> Result<()
 fn skip<S: Source>(
     walk: &mut Walk<'_, '_>,
     replay: &mut Replay<S>,
-    asked: &Asked,
+    asked: &Wishes,
     sheet: &mut Sheet,
 ) -> Result<Option<&'static str>, NoView>
     ensures { SameModel walk.old walk.new }
@@ -218,7 +218,7 @@ pub fn begin_behind<S: Source>(
     rt: &HostRuntime,
     walk: &mut Walk<'_, '_>,
     replay: &mut Replay<S>,
-    asked: &Asked,
+    asked: &Wishes,
     sheet: &mut Sheet,
 ) -> Result<Option<&'static str>, NoView>
     ensures { SameModel walk.old walk.new }
@@ -272,7 +272,7 @@ pub fn go_on<S: Source>(
 fn write_page(
     rt: &HostRuntime,
     file: &mut PageFile,
-    asked: &Asked,
+    asked: &Wishes,
     model: &[u8],
     sheet: &Sheet,
 ) -> Result<(), NoView> {
@@ -298,7 +298,7 @@ fn run_sheet(
     rt: &HostRuntime,
     walk: &mut Walk<'_, '_>,
     replay: &mut Replay<ReadChoices>,
-    asked: &Asked,
+    asked: &Wishes,
     model: &[u8],
     page: &mut Option<PageFile>,
 ) -> Result<&'static str, NoView>
@@ -310,7 +310,7 @@ fn run_sheet(
         Some(end) => end,
         None => go_on(rt, walk, replay, limit, page.is_some(), &mut sheet)?,
     };
-    if asked.form == Form::Json {
+    if asked.form == RunForm::Json {
         show_lines(rt, &sheet.lines)?;
     }
     if let Some(file) = page {
@@ -348,16 +348,16 @@ fn run_forms(
     rt: &HostRuntime,
     walk: &mut Walk<'_, '_>,
     replay: &mut Replay<ReadChoices>,
-    asked: &Asked,
+    asked: &Wishes,
     model: &[u8],
     page: &mut Option<PageFile>,
 ) -> Result<&'static str, NoView>
     ensures { SameModel walk.old walk.new }
 {
     let limit = asked.limit as usize;
-    if asked.form == Form::Json || page.is_some() {
+    if asked.form == RunForm::Json || page.is_some() {
         let end = run_sheet(rt, walk, replay, asked, model, page)?;
-        if asked.form != Form::Chart {
+        if asked.form != RunForm::Chart {
             return Ok(end);
         }
         let steps = walk.legs().len();
@@ -365,7 +365,7 @@ fn run_forms(
         return write_chart(rt, walk, replay, most, end);
     }
     match asked.form {
-        Form::Chart => run_chart(rt, walk, replay, limit),
+        RunForm::Chart => run_chart(rt, walk, replay, limit),
         _ => run_steps(rt, walk, replay, limit),
     }
 }
@@ -374,7 +374,7 @@ fn run_forms(
 pub fn run_all(
     rt: &HostRuntime,
     walk: &mut Walk<'_, '_>,
-    asked: &Asked,
+    asked: &Wishes,
     model: &[u8],
     files: &mut Files,
     led: Option<Led>,
