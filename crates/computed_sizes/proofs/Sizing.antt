@@ -15,7 +15,7 @@ use Rattle.computed_sizes.specs.declared.changes.Place.{Place}
 use Rattle.computed_sizes.specs.declared.changes.Place.TheVariants as place
 use Rattle.computed_sizes.specs.Sized.{behind, changes_by, changes}
 use Rattle.computed_sizes.specs.Resizing.{resized}
-use Rattle.computed_sizes.specs.Laws.{owns}
+use Rattle.prepare.specs.Changed.{owns}
 
 owns_are : (p : Place) (r : Reading) (ts : List Written) → owns (changes_by p r ts) ≡ sources ts
 owns_are p r [] = refl

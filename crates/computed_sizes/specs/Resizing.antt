@@ -6,7 +6,7 @@ use Rattle.profile.specs.Characters.{space}
 use Rattle.prepare.specs.Stretches.{stretches}
 use Rattle.computed_sizes.specs.declared.changes.Change.{Change}
 use Rattle.computed_sizes.specs.declared.changes.Change.TheVariants as change
-use Rattle.computed_sizes.specs.Resized.{Resized}
+use Rattle.prepare.specs.Changed.{Changed}
 use Rattle.computed_sizes.specs.Sized.{changes}
 
 -- a blank in place of each byte
@@ -21,10 +21,10 @@ shown change.Kept t = t
 shown (change.Number n) t = digits n
 shown change.Blanked t = blanks t
 
-abbrev pub one : Resized → List ℕ
+abbrev pub one : Changed Change → List ℕ
 one c = c.gap ++ shown c.change c.token
 
-abbrev pub written : List Resized → List ℕ
+abbrev pub written : List (Changed Change) → List ℕ
 written cs = flat_map one cs
 
 -- a text in which sizes that are expressions of numbers are these numbers

@@ -10,7 +10,7 @@ use Rattle.computed_sizes.specs.declared.changes.Change.{Change}
 use Rattle.computed_sizes.specs.declared.changes.Change.TheVariants as change
 use Rattle.computed_sizes.specs.declared.changes.Place.{Place}
 use Rattle.computed_sizes.specs.declared.changes.Place.TheVariants as place
-use Rattle.computed_sizes.specs.Resized.{Resized}
+use Rattle.prepare.specs.Changed.{Changed, changed}
 use Rattle.computed_sizes.specs.Worths.{worth}
 
 -- whether one token stands before a `]`
@@ -44,10 +44,10 @@ change_at place.Within k = if same_kind k kind.CloseBracket then change.Kept els
 change_at _ k = change.Kept
 
 -- what becomes of the rest of the stretches
-abbrev pub changes_by : Place → Reading → List Written → List Resized
+abbrev pub changes_by : Place → Reading → List Written → List (Changed Change)
 changes_by p r [] = []
-changes_by p r (t ∷ ts) = record { gap = t.gap; token = t.token; change = change_at p t.kind } ∷ changes_by (behind p r t.kind ts) (sizes.behind r t.kind t.token) ts
+changes_by p r (t ∷ ts) = changed t (change_at p t.kind) ∷ changes_by (behind p r t.kind ts) (sizes.behind r t.kind t.token) ts
 
 -- what becomes of the tokens of a text
-abbrev pub changes : List Written → List Resized
+abbrev pub changes : List Written → List (Changed Change)
 changes ts = changes_by place.Outside sizes.start ts

@@ -5,10 +5,10 @@ ghost use Rattle.computed_sizes.specs.Sized as sized;
 
 use crate::worth::worth;
 use pml_token::token::{Kind, same_kind};
+use prepare::changed::Changed;
 use prepare::sizes::Reading;
 use prepare::stretch::Stretch;
 use std::alloc::{AllocError, Global};
-use std::marker::Model;
 
 /// What becomes of a token.
 #[derive(Clone, Copy)]
@@ -31,45 +31,6 @@ pub enum Place {
     First(u32),
     /// Another one, or `]`.
     Within,
-}
-
-/// A token, with what becomes of it.
-#[derive(Drop)]
-pub struct Changed<'t> {
-    gap: &'t [u8],
-    token: &'t [u8],
-    change: Change,
-}
-
-impl<'t> Model for Changed<'t> {
-    ghost use Rattle.computed_sizes.specs.Resized.{Resized as Seen};
-
-    ghost Value = { Seen };
-
-    ghost view = { λ c. record { gap = c.gap.now; token = c.token.now; change = c.change } };
-}
-
-impl<'t> Changed<'t> {
-    /// The blanks and comments before the token.
-    pub fn gap(&self) -> &'t [u8]
-        ensures { result.now ≡ self.now.gap }
-    {
-        self.gap
-    }
-
-    /// The token.
-    pub fn token(&self) -> &'t [u8]
-        ensures { result.now ≡ self.now.token }
-    {
-        self.token
-    }
-
-    /// What becomes of it.
-    pub fn change(&self) -> Change
-        ensures { result ≡ self.now.change }
-    {
-        self.change
-    }
 }
 
 // What an expression comes to that stands in brackets at the front of stretches, and has more tokens than one.
@@ -158,7 +119,7 @@ fn change_at(place: Place, kind: Kind) -> Change
 }
 
 /// What becomes of the tokens of a text.
-pub fn changes<'t>(alloc: Global, stretches: &[Stretch<'t>]) -> Result<Vec<Changed<'t>>, AllocError>
+pub fn changes<'t>(alloc: Global, stretches: &[Stretch<'t>]) -> Result<Vec<Changed<'t, Change>>, AllocError>
     ensures { IfOk result (λ v. v.items ≡ sized.changes stretches.now) }
 {
     let mut out = Vec::new(alloc);
@@ -168,11 +129,7 @@ pub fn changes<'t>(alloc: Global, stretches: &[Stretch<'t>]) -> Result<Vec<Chang
     while let [stretch, back @ ..] = rest {
         let kind = stretch.kind();
         let token = stretch.token();
-        out.push(Changed {
-            gap: stretch.gap(),
-            token,
-            change: change_at(place, kind),
-        })?;
+        out.push(Changed::new(stretch, change_at(place, kind)))?;
         place = behind(place, reading, kind, back);
         reading = reading.behind(kind, token);
         rest = back;

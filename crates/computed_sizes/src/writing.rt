@@ -3,8 +3,9 @@
 ghost use Rattle.std.specs.Prelude.{◌≡◌, ◌++◌, IfOk, OnOk};
 ghost use Rattle.computed_sizes.specs.Resizing as resizing;
 
-use crate::changes::{Change, Changed, changes};
+use crate::changes::{Change, changes};
 use itoa::Buffer;
+use prepare::changed::Changed;
 use prepare::stretches::stretches;
 use std::alloc::{AllocError, Global};
 
@@ -27,7 +28,7 @@ fn add_number(out: &mut Vec<u8>, number: u32) -> Result<(), AllocError>
     out.extend_from_slice(digits.format(number).as_bytes())
 }
 
-fn add_changed(out: &mut Vec<u8>, changed: &Changed<'_>) -> Result<(), AllocError>
+fn add_changed(out: &mut Vec<u8>, changed: &Changed<'_, Change>) -> Result<(), AllocError>
     ensures { OnOk result (out.new.items ≡ out.old.items ++ resizing.one changed.now) }
 {
     out.extend_from_slice(changed.gap())?;
@@ -39,7 +40,7 @@ fn add_changed(out: &mut Vec<u8>, changed: &Changed<'_>) -> Result<(), AllocErro
 }
 
 /// What is written of all.
-pub fn written(alloc: Global, all: &[Changed<'_>]) -> Result<Vec<u8>, AllocError>
+pub fn written(alloc: Global, all: &[Changed<'_, Change>]) -> Result<Vec<u8>, AllocError>
     ensures { IfOk result (λ v. v.items ≡ resizing.written all.now) }
 {
     let mut out = Vec::new(alloc);

@@ -17,7 +17,8 @@ use Rattle.listed_values.specs.Courses.{start, behind, declares, listed, outside
 use Rattle.listed_values.specs.Settings.{setup_by, setup, as_setup, sets, is_mixed, settings, settings_at, starts_behind, is_odd}
 use Rattle.listed_values.specs.Changes.{changes_by, changes, change_within, change_at}
 use Rattle.listed_values.specs.Writing.{shown, written, valued, valued_of, unless_long}
-use Rattle.listed_values.specs.Laws.{owns, own, has_list_from, has_list}
+use Rattle.prepare.specs.Changed.{owns, own}
+use Rattle.listed_values.specs.Laws.{has_list_from, has_list}
 use Rattle.listed_values.proofs.Valuing.{owns_text}
 
 or_left : (a b : Bool) → (a || b) ≡ false → a ≡ false

@@ -8,7 +8,7 @@ use Rattle.prepare.proofs.Plain.{sources_are}
 use Rattle.listed_values.specs.declared.course.Course.{Course}
 use Rattle.listed_values.specs.Courses.{start, behind}
 use Rattle.listed_values.specs.Changes.{changes_by, changes}
-use Rattle.listed_values.specs.Laws.{owns}
+use Rattle.prepare.specs.Changed.{owns}
 
 owns_are : (c : Course) (b : Bool) (ts : List Written) → owns (changes_by c b ts) ≡ sources ts
 owns_are c b [] = refl

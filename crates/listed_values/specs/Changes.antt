@@ -10,7 +10,7 @@ use Rattle.listed_values.specs.declared.course.Within.{Within}
 use Rattle.listed_values.specs.declared.course.Course.{Course}
 use Rattle.listed_values.specs.declared.changes.Change.{Change}
 use Rattle.listed_values.specs.declared.changes.Change.TheVariants as change
-use Rattle.listed_values.specs.Changed.{Changed}
+use Rattle.prepare.specs.Changed.{Changed, changed}
 use Rattle.listed_values.specs.Courses.{start, behind, is_first}
 
 -- whether a token of a list of n values does not stay, where so many tokens are still to come: of one value the first stays, and `=` does
@@ -30,12 +30,12 @@ abbrev pub change_at : Course → Bool → Kind → List ℕ → List Written �
 change_at c is_set k t ts =
     if nat_lt 0 c.within.left then change_within c.within ts else (if is_set && is_first c k t ts then change.Headed else change.Kept)
 
-abbrev pub changes_by : Course → Bool → List Written → List Changed
+abbrev pub changes_by : Course → Bool → List Written → List (Changed Change)
 changes_by c is_set [] = []
 changes_by c is_set (t ∷ ts) =
-    record { gap = t.gap; token = t.token; kind = t.kind; change = change_at c is_set t.kind t.token ts }
+    changed t (change_at c is_set t.kind t.token ts)
     ∷ changes_by (behind c is_set t.kind t.token ts) is_set ts
 
 -- what becomes of the tokens of a text, where lists of different values are set by the first step or stay
-abbrev pub changes : Bool → List Written → List Changed
+abbrev pub changes : Bool → List Written → List (Changed Change)
 changes is_set ts = changes_by start is_set ts

@@ -9,7 +9,7 @@ use Rattle.prepare.specs.Written.{Written}
 use Rattle.prepare.specs.Stretches.{stretches}
 use Rattle.listed_values.specs.declared.changes.Change.{Change}
 use Rattle.listed_values.specs.declared.changes.Change.TheVariants as change
-use Rattle.listed_values.specs.Changed.{Changed}
+use Rattle.prepare.specs.Changed.{Changed}
 use Rattle.listed_values.specs.Changes.{changes}
 use Rattle.listed_values.specs.Settings.{setup, sets}
 
@@ -23,10 +23,10 @@ shown set change.Blanked t = codes " "
 shown set change.Ended t = codes ";"
 shown set change.Headed t = step set ++ t
 
-abbrev pub one : List ℕ → Changed → List ℕ
+abbrev pub one : List ℕ → Changed Change → List ℕ
 one set c = c.gap ++ shown set c.change c.token
 
-abbrev pub written : List ℕ → List Changed → List ℕ
+abbrev pub written : List ℕ → List (Changed Change) → List ℕ
 written set cs = flat_map (one set) cs
 
 abbrev pub is_blanked : Change → Bool
@@ -34,7 +34,7 @@ is_blanked change.Blanked = true
 is_blanked _ = false
 
 -- whether a token is the `=` of a list that a step sets
-abbrev pub is_sign : Changed → Bool
+abbrev pub is_sign : Changed Change → Bool
 is_sign c = is_blanked c.change && same_kind c.kind kind.Assign
 
 abbrev pub unless_long : List ℕ → List ℕ → List ℕ

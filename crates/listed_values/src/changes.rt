@@ -6,9 +6,9 @@ ghost use Rattle.listed_values.specs.Changes as changes;
 use crate::course::{Course, Mode, Within};
 use crate::lists::begins_with;
 use pml_token::token::Kind;
+use prepare::changed::Changed;
 use prepare::stretch::Stretch;
 use std::alloc::{AllocError, Global};
-use std::marker::Model;
 
 /// What becomes of a token.
 #[derive(Clone, Copy)]
@@ -21,53 +21,6 @@ pub enum Change {
     Ended,
     /// The step that sets the elements stands before it.
     Headed,
-}
-
-/// A token, with what becomes of it.
-#[derive(Drop)]
-pub struct Changed<'t> {
-    gap: &'t [u8],
-    token: &'t [u8],
-    kind: Kind,
-    change: Change,
-}
-
-impl<'t> Model for Changed<'t> {
-    ghost use Rattle.listed_values.specs.Changed.{Changed as Seen};
-
-    ghost Value = { Seen };
-
-    ghost view = { λ c. record { gap = c.gap.now; token = c.token.now; kind = c.kind; change = c.change } };
-}
-
-impl<'t> Changed<'t> {
-    /// The blanks and comments before the token.
-    pub fn gap(&self) -> &'t [u8]
-        ensures { result.now ≡ self.now.gap }
-    {
-        self.gap
-    }
-
-    /// The token.
-    pub fn token(&self) -> &'t [u8]
-        ensures { result.now ≡ self.now.token }
-    {
-        self.token
-    }
-
-    /// What it is.
-    pub fn kind(&self) -> Kind
-        ensures { result ≡ self.now.kind }
-    {
-        self.kind
-    }
-
-    /// What becomes of it.
-    pub fn change(&self) -> Change
-        ensures { result ≡ self.now.change }
-    {
-        self.change
-    }
 }
 
 // Whether a token of a list of so many values does not stay.
@@ -120,7 +73,7 @@ pub fn changes<'t>(
     alloc: Global,
     is_set: bool,
     stretches: &[Stretch<'t>],
-) -> Result<Vec<Changed<'t>>, AllocError>
+) -> Result<Vec<Changed<'t, Change>>, AllocError>
     ensures { IfOk result (λ v. v.items ≡ changes.changes is_set stretches.now) }
 {
     let mut out = Vec::new(alloc);
@@ -129,12 +82,10 @@ pub fn changes<'t>(
     while let [stretch, back @ ..] = rest {
         let kind = stretch.kind();
         let token = stretch.token();
-        out.push(Changed {
-            gap: stretch.gap(),
-            token,
-            kind,
-            change: change_at(course, is_set, kind, token, back),
-        })?;
+        out.push(Changed::new(
+            stretch,
+            change_at(course, is_set, kind, token, back),
+        ))?;
         course = course.behind(is_set, kind, token, back);
         rest = back;
     }

@@ -3,10 +3,11 @@
 ghost use Rattle.std.specs.Prelude.{◌≡◌, ◌≤◌, ◌++◌, length, IfOk, OnOk};
 ghost use Rattle.listed_values.specs.Writing as writing;
 
-use crate::changes::{Change, Changed, changes};
+use crate::changes::{Change, changes};
 use crate::settings::{Setup, setup_of};
 use pml_token::token::{Kind, same_kind};
 use prepare::MOST_BYTES;
+use prepare::changed::Changed;
 use prepare::stretches::stretches;
 use std::alloc::{AllocError, Global};
 
@@ -19,7 +20,7 @@ fn add_step(out: &mut Vec<u8>, set: &[u8]) -> Result<(), AllocError>
     out.extend_from_slice(b"}; ")
 }
 
-fn add_changed(out: &mut Vec<u8>, set: &[u8], changed: &Changed<'_>) -> Result<(), AllocError>
+fn add_changed(out: &mut Vec<u8>, set: &[u8], changed: &Changed<'_, Change>) -> Result<(), AllocError>
     ensures { OnOk result (out.new.items ≡ out.old.items ++ writing.one set.now changed.now) }
 {
     out.extend_from_slice(changed.gap())?;
@@ -35,7 +36,7 @@ fn add_changed(out: &mut Vec<u8>, set: &[u8], changed: &Changed<'_>) -> Result<(
 }
 
 /// What is written of all, where this sets elements.
-pub fn written(alloc: Global, set: &[u8], all: &[Changed<'_>]) -> Result<Vec<u8>, AllocError>
+pub fn written(alloc: Global, set: &[u8], all: &[Changed<'_, Change>]) -> Result<Vec<u8>, AllocError>
     ensures { IfOk result (λ v. v.items ≡ writing.written set.now all.now) }
 {
     let mut out = Vec::new(alloc);
@@ -59,14 +60,14 @@ fn line_behind(line: u64, text: &[u8]) -> u64
 }
 
 // Whether a token is the `=` of a list that a step sets.
-fn is_sign(changed: &Changed<'_>) -> bool
+fn is_sign(changed: &Changed<'_, Change>) -> bool
     ensures { result ≡ writing.is_sign changed.now }
 {
     matches!(changed.change(), Change::Blanked) && same_kind(changed.kind(), Kind::Assign)
 }
 
 // The lines of the lists that a step sets.
-fn lines_of(alloc: Global, all: &[Changed<'_>]) -> Result<Vec<u64>, AllocError>
+fn lines_of(alloc: Global, all: &[Changed<'_, Change>]) -> Result<Vec<u64>, AllocError>
     ensures { IfOk result (λ v. length v.items ≤ length all.now) }
 {
     let mut lines: Vec<u64> = Vec::new(alloc);

@@ -10,7 +10,8 @@ use Rattle.prepare.specs.Written.{Written}
 use Rattle.mtype_commas.specs.declared.place.Place.{Place}
 use Rattle.mtype_commas.specs.declared.place.Place.TheVariants as place
 use Rattle.mtype_commas.specs.declared.changes.Change.TheVariants as change
-use Rattle.mtype_commas.specs.Changed.{Changed}
+use Rattle.prepare.specs.Changed.{Changed, changed}
+use Rattle.mtype_commas.specs.declared.changes.Change.{Change}
 use Rattle.mtype_commas.specs.Places.{behind}
 use Rattle.mtype_commas.specs.Changes as changes
 use Rattle.mtype_commas.specs.Changes.{change_at, changes_by}
@@ -162,8 +163,8 @@ knows (place.Within b) k ks w = behind_within b k ks w
 
 -- ---- what becomes of a token
 
-abbrev the : Place → Written → List Written → Changed
-the p t ts = record { gap = t.gap; token = t.token; kind = t.kind; change = change_at p t.kind ts }
+abbrev the : Place → Written → List Written → Changed Change
+the p t ts = changed t (change_at p t.kind ts)
 
 spare_is : (p : Place) (ts : List Written) → is_spare (changes_by p ts) ≡ changes.is_spare ts
 spare_is p [] = refl
@@ -191,7 +192,7 @@ named_true false s true false e = cc
 named_true false s false false e = cc
 
 -- outside of names nothing changes
-none_at : (ks : List Kind) (c : Changed) (back : List Changed) → (AmongNames ks → ⊥) → c.change ≡ change.Kept → Exact ks c back
+none_at : (ks : List Kind) (c : Changed Change) (back : List (Changed Change)) → (AmongNames ks → ⊥) → c.change ≡ change.Kept → Exact ks c back
 none_at ks c back none e =
     record {
       blanked = λ f. let odd : change.Kept ≡ change.Blanked = sym e ∙ f in cc;
@@ -222,17 +223,17 @@ at_token place.Subtyped t ts q ks w = none_at ks (the place.Subtyped t ts) (chan
 at_token place.Assigned t ts q ks w = none_at ks (the place.Assigned t ts) (changes_by q ts) w.outside refl
 at_token (place.Within b) t ts q ks w = among_at b t ts q ks w
 
-follow : (ts : List Written) (p : Place) (ks : List Kind) → Knows p ks → (front back : List Changed) (c : Changed) → changes_by p ts ≡ front ++ c ∷ back → Exact (fold kinds_behind ks front) c back
+follow : (ts : List Written) (p : Place) (ks : List Kind) → Knows p ks → (front back : List (Changed Change)) (c : Changed Change) → changes_by p ts ≡ front ++ c ∷ back → Exact (fold kinds_behind ks front) c back
 follow [] p ks w [] back c e = cc
 follow [] p ks w (x ∷ front) back c e = cc
 follow (t ∷ ts) p ks w [] back c e =
     let same : the p t ts ≡ c = cc in
     let rest : changes_by (behind p t.kind) ts ≡ back = cc in
-    subst (λ (d : Changed). Exact ks d back) same (subst (λ (b : List Changed). Exact ks (the p t ts) b) rest (at_token p t ts (behind p t.kind) ks w))
+    subst (λ (d : Changed Change). Exact ks d back) same (subst (λ (b : List (Changed Change)). Exact ks (the p t ts) b) rest (at_token p t ts (behind p t.kind) ks w))
 follow (t ∷ ts) p ks w (x ∷ front) back c e =
     let same : the p t ts ≡ x = cc in
     let rest : changes_by (behind p t.kind) ts ≡ front ++ c ∷ back = cc in
-    subst (λ (d : Changed). Exact (fold kinds_behind (kinds_behind ks d) front) c back) same (follow ts (behind p t.kind) (t.kind ∷ ks) (knows p t.kind ks w) front back c rest)
+    subst (λ (d : Changed Change). Exact (fold kinds_behind (kinds_behind ks d) front) c back) same (follow ts (behind p t.kind) (t.kind ∷ ks) (knows p t.kind ks w) front back c rest)
 
 begun : Known false false false []
 begun = record { outside = λ m. none_among_by m.inside m.before m.splits m.begun; typed = refl; subtyped = refl; assigned = refl }

@@ -15,7 +15,8 @@ use Rattle.mtype_commas.specs.declared.place.Place.TheVariants as place
 use Rattle.mtype_commas.specs.declared.changes.Change.TheVariants as change
 use Rattle.mtype_commas.specs.Places.{behind}
 use Rattle.mtype_commas.specs.Changes.{is_spare, change_at, changes_by, changes}
-use Rattle.mtype_commas.specs.Laws.{owns, IsOwn}
+use Rattle.prepare.specs.Changed.{owns}
+use Rattle.mtype_commas.specs.Laws.{IsOwn}
 
 owns_are : (p : Place) (ts : List Written) → owns (changes_by p ts) ≡ sources ts
 owns_are p [] = refl

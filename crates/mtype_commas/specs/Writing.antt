@@ -6,7 +6,7 @@ use Rattle.prepare.specs.declared.TheConstants.{MOST_BYTES}
 use Rattle.prepare.specs.Stretches.{stretches}
 use Rattle.mtype_commas.specs.declared.changes.Change.{Change}
 use Rattle.mtype_commas.specs.declared.changes.Change.TheVariants as change
-use Rattle.mtype_commas.specs.Changed.{Changed}
+use Rattle.prepare.specs.Changed.{Changed}
 use Rattle.mtype_commas.specs.Changes.{changes}
 
 -- what stands before the gap, where the last name ends
@@ -18,10 +18,10 @@ abbrev pub shown : Change → List ℕ → List ℕ
 shown change.Blanked t = codes " "
 shown _ t = t
 
-abbrev pub one : Changed → List ℕ
+abbrev pub one : Changed Change → List ℕ
 one c = front c.change ++ (c.gap ++ shown c.change c.token)
 
-abbrev pub written : List Changed → List ℕ
+abbrev pub written : List (Changed Change) → List ℕ
 written cs = flat_map one cs
 
 abbrev pub unless_long : List ℕ → List ℕ → List ℕ

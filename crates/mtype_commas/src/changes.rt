@@ -5,9 +5,9 @@ ghost use Rattle.mtype_commas.specs.Changes as changes;
 
 use crate::place::{Place, behind};
 use pml_token::token::{Kind, same_kind};
+use prepare::changed::Changed;
 use prepare::stretch::Stretch;
 use std::alloc::{AllocError, Global};
-use std::marker::Model;
 
 /// What becomes of a token.
 #[derive(Clone, Copy)]
@@ -18,46 +18,6 @@ pub enum Change {
     Blanked,
     /// A comma stands before it, which is a name.
     Parted,
-}
-
-/// A token, with what becomes of it.
-#[derive(Drop)]
-pub struct Changed<'t> {
-    gap: &'t [u8],
-    token: &'t [u8],
-    kind: Kind,
-    change: Change,
-}
-
-impl<'t> Model for Changed<'t> {
-    ghost use Rattle.mtype_commas.specs.Changed.{Changed as Seen};
-
-    ghost Value = { Seen };
-
-    ghost view = { λ c. record { gap = c.gap.now; token = c.token.now; kind = c.kind; change = c.change } };
-}
-
-impl<'t> Changed<'t> {
-    /// The blanks and comments before the token.
-    pub fn gap(&self) -> &'t [u8]
-        ensures { result.now ≡ self.now.gap }
-    {
-        self.gap
-    }
-
-    /// The token.
-    pub fn token(&self) -> &'t [u8]
-        ensures { result.now ≡ self.now.token }
-    {
-        self.token
-    }
-
-    /// What becomes of it.
-    pub fn change(&self) -> Change
-        ensures { result ≡ self.now.change }
-    {
-        self.change
-    }
 }
 
 /// Whether the names end at the front of stretches, or another comma stands there.
@@ -95,7 +55,7 @@ fn change_at(place: Place, kind: Kind, back: &[Stretch<'_>]) -> Change
 }
 
 /// What becomes of the tokens of a text.
-pub fn changes<'t>(alloc: Global, stretches: &[Stretch<'t>]) -> Result<Vec<Changed<'t>>, AllocError>
+pub fn changes<'t>(alloc: Global, stretches: &[Stretch<'t>]) -> Result<Vec<Changed<'t, Change>>, AllocError>
     ensures { IfOk result (λ v. v.items ≡ changes.changes stretches.now) }
 {
     let mut out = Vec::new(alloc);
@@ -103,12 +63,7 @@ pub fn changes<'t>(alloc: Global, stretches: &[Stretch<'t>]) -> Result<Vec<Chang
     let mut rest = stretches;
     while let [stretch, back @ ..] = rest {
         let kind = stretch.kind();
-        out.push(Changed {
-            gap: stretch.gap(),
-            token: stretch.token(),
-            kind,
-            change: change_at(place, kind, back),
-        })?;
+        out.push(Changed::new(stretch, change_at(place, kind, back)))?;
         place = behind(place, kind);
         rest = back;
     }

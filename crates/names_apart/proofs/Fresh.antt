@@ -18,7 +18,8 @@ use Rattle.names_apart.specs.Scopes.{behind, start}
 use Rattle.names_apart.specs.Tallies.{count_at}
 use Rattle.names_apart.specs.Changes.{changes_by, changes}
 use Rattle.names_apart.specs.Writing.{underscore, is_digit, run_behind, most_behind, longest_by, longest, underscores, joint}
-use Rattle.names_apart.specs.Laws.{owns, NotIn}
+use Rattle.prepare.specs.Changed.{owns}
+use Rattle.names_apart.specs.Laws.{NotIn}
 
 owns_are : (name : List ℕ) (cs : List Counted) (s : Scope) (ts : List Written) → owns (changes_by name cs s ts) ≡ sources ts
 owns_are name cs s [] = refl

@@ -7,7 +7,7 @@ use Rattle.names_apart.specs.declared.scope.Scope.{Scope}
 use Rattle.names_apart.specs.declared.changes.Change.{Change}
 use Rattle.names_apart.specs.declared.changes.Change.TheVariants as change
 use Rattle.names_apart.specs.Counted.{Counted}
-use Rattle.names_apart.specs.Changed.{Changed}
+use Rattle.prepare.specs.Changed.{Changed, changed}
 use Rattle.names_apart.specs.Scopes.{more, is_name, declares, is_header, ends_call, force_behind, behind, start}
 use Rattle.names_apart.specs.Tallies.{count_at}
 
@@ -33,11 +33,11 @@ change_at s name k t =
     if is_name name k t then (if s.is_field || is_header s then change.Kept else named s.is_inline (force_at s name k t))
     else (if ends_call s k then change.Passed (index s.is_inline (first s.force)) s.call.within s.call.is_bare else change.Kept)
 
-abbrev pub changes_by : List ℕ → List Counted → Scope → List Written → List Changed
+abbrev pub changes_by : List ℕ → List Counted → Scope → List Written → List (Changed Change)
 changes_by name cs s [] = []
 changes_by name cs s (t ∷ ts) =
-    record { gap = t.gap; token = t.token; change = change_at s name t.kind t.token } ∷ changes_by name cs (behind s name (count_at cs t.kind t.token) t.kind t.token) ts
+    changed t (change_at s name t.kind t.token) ∷ changes_by name cs (behind s name (count_at cs t.kind t.token) t.kind t.token) ts
 
 -- what becomes of the tokens of a text where a name is divided which these inlines declare
-abbrev pub changes : List ℕ → List Counted → List Written → List Changed
+abbrev pub changes : List ℕ → List Counted → List Written → List (Changed Change)
 changes name cs ts = changes_by name cs start ts

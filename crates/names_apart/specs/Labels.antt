@@ -8,7 +8,7 @@ use Rattle.names_apart.specs.declared.labels.Labels.{Labels}
 use Rattle.names_apart.specs.declared.changes.Change.{Change}
 use Rattle.names_apart.specs.declared.changes.Change.TheVariants as change
 use Rattle.names_apart.specs.Counted.{Counted}
-use Rattle.names_apart.specs.Changed.{Changed}
+use Rattle.prepare.specs.Changed.{Changed, changed}
 use Rattle.names_apart.specs.Scopes.{more, is_name, braces_behind, parens_behind, ends, call_behind}
 use Rattle.names_apart.specs.Tallies.{count_at, home_behind, Tallied, as_tallied}
 use Rattle.names_apart.specs.Changes.{index}
@@ -122,12 +122,12 @@ change_at s name k t ts =
     if is_name name k t then (if is_label s k ts || is_target s then change.Named (index s.is_inline 1) else change.Kept)
     else (if ends_call s k then change.Passed (index s.is_inline (more s.count 1)) s.call.within s.call.is_bare else change.Kept)
 
-abbrev pub changes_by : List ℕ → List Counted → Labels → List Written → List Changed
+abbrev pub changes_by : List ℕ → List Counted → Labels → List Written → List (Changed Change)
 changes_by name cs s [] = []
 changes_by name cs s (t ∷ ts) =
-    record { gap = t.gap; token = t.token; change = change_at s name t.kind t.token ts }
+    changed t (change_at s name t.kind t.token ts)
     ∷ changes_by name cs (behind s name (count_at cs t.kind t.token) t.kind t.token ts) ts
 
 -- what becomes of the tokens of a text where the labels of a name are divided which these inlines have
-abbrev pub changes : List ℕ → List Counted → List Written → List Changed
+abbrev pub changes : List ℕ → List Counted → List Written → List (Changed Change)
 changes name cs ts = changes_by name cs start ts

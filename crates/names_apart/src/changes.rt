@@ -6,9 +6,9 @@ ghost use Rattle.names_apart.specs.Changes as changes;
 use crate::scope::{Force, Scope, is_name, more};
 use crate::tally::{Counted, count_at};
 use pml_token::token::Kind;
+use prepare::changed::Changed;
 use prepare::stretch::Stretch;
 use std::alloc::{AllocError, Global};
-use std::marker::Model;
 
 /// What becomes of a token.
 #[derive(Clone, Copy)]
@@ -19,52 +19,6 @@ pub enum Change {
     Named(u32),
     /// Names with numbers from the first on stand before it, so many; whether nothing else stands before them.
     Passed(u32, u32, bool),
-}
-
-/// A token, with what becomes of it.
-#[derive(Drop)]
-pub struct Changed<'t> {
-    gap: &'t [u8],
-    token: &'t [u8],
-    change: Change,
-}
-
-impl<'t> Model for Changed<'t> {
-    ghost use Rattle.names_apart.specs.Changed.{Changed as Seen};
-
-    ghost Value = { Seen };
-
-    ghost view = { λ c. record { gap = c.gap.now; token = c.token.now; change = c.change } };
-}
-
-impl<'t> Changed<'t> {
-    /// A token behind a gap, with what becomes of it.
-    pub(crate) fn new(gap: &'t [u8], token: &'t [u8], change: Change) -> Changed<'t>
-        ensures { result ≡ record { gap = gap.now; token = token.now; change = change } }
-    {
-        Changed { gap, token, change }
-    }
-
-    /// The blanks and comments before the token.
-    pub fn gap(&self) -> &'t [u8]
-        ensures { result.now ≡ self.now.gap }
-    {
-        self.gap
-    }
-
-    /// The token.
-    pub fn token(&self) -> &'t [u8]
-        ensures { result.now ≡ self.now.token }
-    {
-        self.token
-    }
-
-    /// What becomes of it.
-    pub fn change(&self) -> Change
-        ensures { result ≡ self.now.change }
-    {
-        self.change
-    }
 }
 
 // The number that is written: in an inline one more, since there the name is a parameter, which is to be no field.
@@ -132,7 +86,7 @@ pub fn changes<'t>(
     name: &[u8],
     table: &[Counted<'_>],
     stretches: &[Stretch<'t>],
-) -> Result<Vec<Changed<'t>>, AllocError>
+) -> Result<Vec<Changed<'t, Change>>, AllocError>
     ensures { IfOk result (λ v. v.items ≡ changes.changes name.now table.now stretches.now) }
 {
     let mut out = Vec::new(alloc);
@@ -141,11 +95,10 @@ pub fn changes<'t>(
     while let [stretch, back @ ..] = rest {
         let kind = stretch.kind();
         let token = stretch.token();
-        out.push(Changed {
-            gap: stretch.gap(),
-            token,
-            change: change_at(scope, name, kind, token),
-        })?;
+        out.push(Changed::new(
+            stretch,
+            change_at(scope, name, kind, token),
+        ))?;
         scope = scope.behind(name, count_at(table, kind, token), kind, token);
         rest = back;
     }

@@ -4,11 +4,12 @@ ghost use Rattle.std.specs.Prelude.{◌≡◌, IfOk, OnOk};
 ghost use Rattle.names_apart.specs.Tallies.{as_tallied};
 ghost use Rattle.names_apart.specs.Labels as rules;
 
-use crate::changes::{Change, Changed, index};
+use crate::changes::{Change, index};
 use crate::labels::Labels;
 use crate::scope::{is_name, more};
 use crate::tally::{Counted, Tally, count_at, home_behind};
 use pml_token::token::Kind;
+use prepare::changed::Changed;
 use prepare::stretch::Stretch;
 use std::alloc::{AllocError, Global};
 
@@ -105,7 +106,7 @@ pub fn label_changes<'t>(
     name: &[u8],
     table: &[Counted<'_>],
     stretches: &[Stretch<'t>],
-) -> Result<Vec<Changed<'t>>, AllocError>
+) -> Result<Vec<Changed<'t, Change>>, AllocError>
     ensures { IfOk result (λ v. v.items ≡ rules.changes name.now table.now stretches.now) }
 {
     let mut out = Vec::new(alloc);
@@ -115,8 +116,7 @@ pub fn label_changes<'t>(
         let kind = stretch.kind();
         let token = stretch.token();
         out.push(Changed::new(
-            stretch.gap(),
-            token,
+            stretch,
             change_at(labels, name, kind, token, back),
         ))?;
         labels = labels.behind(name, count_at(table, kind, token), kind, token, back);

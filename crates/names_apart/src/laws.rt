@@ -8,7 +8,8 @@ ghost use Rattle.names_apart.specs.Counted.{Counted};
 ghost use Rattle.names_apart.specs.Changes.{changes};
 ghost use Rattle.names_apart.specs.Labels as labels;
 ghost use Rattle.names_apart.specs.Writing.{longest, joint};
-ghost use Rattle.names_apart.specs.Laws.{owns, NotIn};
+ghost use Rattle.prepare.specs.Changed.{owns};
+ghost use Rattle.names_apart.specs.Laws.{NotIn};
 
 /// Where a name is divided nothing is left out: gaps and tokens, one behind the other, are the text. So what is between tokens stays, and each
 /// token but the name is as it was.

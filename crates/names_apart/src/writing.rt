@@ -4,10 +4,11 @@ ghost use Rattle.std.specs.Prelude.{◌≡◌, ◌++◌, IfOk, IfSome, OnOk};
 ghost use Rattle.std.specs.Fmt.{decimal};
 ghost use Rattle.names_apart.specs.Writing as writing;
 
-use crate::changes::{Change, Changed};
+use crate::changes::Change;
 use crate::scope::more;
 use itoa::Buffer;
 use prepare::MOST_BYTES;
+use prepare::changed::Changed;
 use std::alloc::{AllocError, Global};
 
 /// The most underscores before a digit that are told from more of them.
@@ -109,7 +110,7 @@ fn add_changed(
     out: &mut Vec<u8>,
     name: &[u8],
     joint: &[u8],
-    changed: &Changed<'_>,
+    changed: &Changed<'_, Change>,
 ) -> Result<(), AllocError>
     ensures { OnOk result (out.new.items ≡ out.old.items ++ writing.one name.now joint.now changed.now) }
 {
@@ -129,7 +130,7 @@ pub fn written(
     alloc: Global,
     name: &[u8],
     joint: &[u8],
-    all: &[Changed<'_>],
+    all: &[Changed<'_, Change>],
 ) -> Result<Option<Vec<u8>>, AllocError>
     ensures { IfOk result (λ o. IfSome o (λ v. v.items ≡ writing.written name.now joint.now all.now)) }
 {

@@ -19,7 +19,8 @@ use Rattle.prepare.specs.Changes.{change_of, head_behind, exchanges_by, exchange
 use Rattle.prepare.specs.Spelling.{spelled}
 use Rattle.prepare.specs.Numbering.{bare, numbered, has_marker, first_standing}
 use Rattle.prepare.specs.Coding.{coded, has_character}
-use Rattle.prepare.specs.Laws.{owns, source, sources, separated, exchanged, prepared, is_mended, has_change}
+use Rattle.prepare.specs.Changed.{owns}
+use Rattle.prepare.specs.Laws.{source, sources, separated, exchanged, prepared, is_mended, has_change}
 use Rattle.prepare.proofs.Fronts.{uncoded}
 use Rattle.prepare.proofs.Lines.{feeds, feeds-append, digit_feeds, blanks_feeds, filter_feeds}
 use Rattle.prepare.proofs.Plain.{and_left, and_right, sources_are, all_stay, unmarked}

@@ -14,7 +14,7 @@ use Rattle.prepare.specs.declared.changes.Change.{Change}
 use Rattle.prepare.specs.declared.changes.Change.TheVariants as change
 use Rattle.prepare.specs.Spelling.{blank}
 use Rattle.prepare.specs.Written.{Written}
-use Rattle.prepare.specs.Exchange.{Exchange}
+use Rattle.prepare.specs.Changed.{Changed, changed}
 use Rattle.prepare.specs.Sizes.{is_in, Declared, declared, agreed}
 
 -- behind a token that goes on with nothing
@@ -69,12 +69,12 @@ abbrev pub change_at : List Declared → Head → List Written → Change
 change_at ds h [] = change.Kept
 change_at ds h (t ∷ ts) = change_of ds h t ts
 
-abbrev pub exchanges_by : List Declared → Head → List Written → List Exchange
+abbrev pub exchanges_by : List Declared → Head → List Written → List (Changed Change)
 exchanges_by ds h [] = []
-exchanges_by ds h (t ∷ ts) = record { gap = t.gap; token = t.token; change = change_of ds h t ts } ∷ exchanges_by ds (head_behind h t.kind t.token) ts
+exchanges_by ds h (t ∷ ts) = changed t (change_of ds h t ts) ∷ exchanges_by ds (head_behind h t.kind t.token) ts
 
 -- what becomes of stretches
-abbrev pub exchanges : List Written → List Exchange
+abbrev pub exchanges : List Written → List (Changed Change)
 exchanges ts = exchanges_by (declared ts) head.Outside ts
 
 -- the numbers of elements: `0 .. 4`. No text has room for more than `MOST_LINE`
@@ -89,11 +89,11 @@ shown change.Blanked t = map blank t
 shown change.Colon t = codes ":" ++ filter is_line_feed t
 shown (change.Range last) t = numbers last ++ filter is_line_feed t
 
-abbrev pub respelled_one : Exchange → List ℕ
+abbrev pub respelled_one : Changed Change → List ℕ
 respelled_one c = c.gap ++ shown c.change c.token
 
 -- what is written of all
-abbrev pub respelled : List Exchange → List ℕ
+abbrev pub respelled : List (Changed Change) → List ℕ
 respelled cs = flat_map respelled_one cs
 
 abbrev pub is_kept : Change → Bool
@@ -102,5 +102,5 @@ is_kept change.Left = true
 is_kept _ = false
 
 -- whether a token comes out as it is
-abbrev pub is_same : Exchange → Bool
+abbrev pub is_same : Changed Change → Bool
 is_same c = is_kept c.change

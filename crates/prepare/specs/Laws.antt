@@ -15,7 +15,8 @@ use Rattle.prepare.specs.Spelling.{unbroken, spelled}
 use Rattle.prepare.specs.Blocks.{is_blanked}
 use Rattle.prepare.specs.Numbering.{bare, numbered, has_marker}
 use Rattle.prepare.specs.Coding.{coded, has_character}
-use Rattle.prepare.specs.Exchange.{Exchange}
+use Rattle.prepare.specs.declared.changes.Change.{Change}
+use Rattle.prepare.specs.Changed.{Changed}
 use Rattle.prepare.specs.Changes.{exchanges, respelled_one, respelled, is_same}
 
 -- a text with its lines where its markers say, and with numbers in place of its character constants
@@ -37,13 +38,6 @@ prepared text = exchanged (separated text)
 -- whether another token, or none, is written in place of one of a text: of a subtype of `mtype`, or of a `for` over an array
 abbrev pub has_change : List ℕ → Bool
 has_change text = not (list_all is_same (exchanges (stretches text)))
-
--- what an exchange has of the text
-abbrev pub own : Exchange → List ℕ
-own c = c.gap ++ c.token
-
-abbrev pub owns : List Exchange → List ℕ
-owns cs = flat_map own cs
 
 -- what a stretch has of the text: all but what is written
 abbrev pub source : Written → List ℕ
@@ -125,7 +119,7 @@ written_from n (t ∷ []) = all_on n (supplied t.supply)
 written_from n (t ∷ u ∷ us) = all_on n (supplied t.supply) ++ (all_on (line_from n t.gap) (kept t.form t.token) ++ written_from (line_from n (source t)) (u ∷ us))
 
 -- the tokens of what becomes of a text, as they were before, each on the line where what becomes of it is written; the last has none
-abbrev pub shown_from : ℕ → List Exchange → List Standing
+abbrev pub shown_from : ℕ → List (Changed Change) → List Standing
 shown_from n [] = []
 shown_from n (c ∷ []) = []
 shown_from n (c ∷ d ∷ ds) = record { text = c.token; line = line_from n c.gap } ∷ shown_from (line_from n (respelled_one c)) (d ∷ ds)

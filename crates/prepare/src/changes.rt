@@ -6,6 +6,7 @@ ghost use Rattle.prepare.specs.Sizes.{declared, agreed};
 ghost use Rattle.prepare.specs.Changes as changes;
 ghost use Rattle.prepare.specs.Found.{AreSizes};
 
+use crate::changed::Changed;
 use crate::markers::MOST_LINE;
 use crate::sizes::{Sizes, is_in, sizes_of};
 use crate::spelling::{add_blanks, add_feeds};
@@ -13,7 +14,6 @@ use crate::stretch::Stretch;
 use itoa::Buffer;
 use pml_token::token::{Kind, same_kind};
 use std::alloc::{AllocError, Global};
-use std::marker::Model;
 
 /// What the tokens before one are the beginning of.
 #[derive(Clone, Copy)]
@@ -46,45 +46,6 @@ pub enum Change {
     Colon,
     /// The range from 0 to this number stands for it.
     Range(u32),
-}
-
-/// A token, with what becomes of it.
-#[derive(Drop)]
-pub struct Exchange<'t> {
-    gap: &'t [u8],
-    token: &'t [u8],
-    change: Change,
-}
-
-impl<'t> Model for Exchange<'t> {
-    ghost use Rattle.prepare.specs.Exchange.{Exchange as Seen};
-
-    ghost Value = { Seen };
-
-    ghost view = { λ c. record { gap = c.gap.now; token = c.token.now; change = c.change } };
-}
-
-impl<'t> Exchange<'t> {
-    /// The blanks, comments and markers before the token.
-    pub fn gap(&self) -> &'t [u8]
-        ensures { result.now ≡ self.now.gap }
-    {
-        self.gap
-    }
-
-    /// The token.
-    pub fn token(&self) -> &'t [u8]
-        ensures { result.now ≡ self.now.token }
-    {
-        self.token
-    }
-
-    /// What becomes of it.
-    pub fn change(&self) -> Change
-        ensures { result ≡ self.now.change }
-    {
-        self.change
-    }
 }
 
 fn begun(kind: Kind) -> Head
@@ -241,7 +202,7 @@ fn change_at(
 pub fn exchanges<'t>(
     alloc: Global,
     stretches: &[Stretch<'t>],
-) -> Result<Vec<Exchange<'t>>, AllocError>
+) -> Result<Vec<Changed<'t, Change>>, AllocError>
     ensures { IfOk result (λ v. v.items ≡ changes.exchanges stretches.now) }
 {
     let sizes = sizes_of(alloc, stretches)?;
@@ -249,11 +210,10 @@ pub fn exchanges<'t>(
     let mut head = Head::Outside;
     let mut rest = stretches;
     while let [stretch, back @ ..] = rest {
-        out.push(Exchange {
-            gap: stretch.gap(),
-            token: stretch.token(),
-            change: change_at(&sizes, stretches, head, rest),
-        })?;
+        out.push(Changed::new(
+            stretch,
+            change_at(&sizes, stretches, head, rest),
+        ))?;
         head = head_behind(head, stretch.kind(), stretch.token());
         rest = back;
     }
@@ -285,7 +245,7 @@ fn add_shown(out: &mut Vec<u8>, change: Change, token: &[u8]) -> Result<(), Allo
     }
 }
 
-fn add_exchange(out: &mut Vec<u8>, exchange: &Exchange<'_>) -> Result<(), AllocError>
+fn add_exchange(out: &mut Vec<u8>, exchange: &Changed<'_, Change>) -> Result<(), AllocError>
     ensures { OnOk result (out.new.items ≡ out.old.items ++ changes.respelled_one exchange.now) }
 {
     out.extend_from_slice(exchange.gap())?;
@@ -293,7 +253,7 @@ fn add_exchange(out: &mut Vec<u8>, exchange: &Exchange<'_>) -> Result<(), AllocE
 }
 
 /// What is written of all.
-pub fn respelled(alloc: Global, all: &[Exchange<'_>]) -> Result<Vec<u8>, AllocError>
+pub fn respelled(alloc: Global, all: &[Changed<'_, Change>]) -> Result<Vec<u8>, AllocError>
     ensures { IfOk result (λ v. v.items ≡ changes.respelled all.now) }
 {
     let mut out = Vec::new(alloc);

@@ -3,7 +3,8 @@
 ghost use Rattle.std.specs.Prelude.{◌≤◌, length};
 
 use crate::kinds::{Kinds, What};
-use prepare::changes::{Change, Exchange};
+use prepare::changed::Changed;
+use prepare::changes::Change;
 use prepare::stretch::{Form, Remark, Stretch};
 use std::alloc::Global;
 
@@ -130,7 +131,7 @@ impl<'t> Report<'t> {
     }
 
     /// Reads one token more, with what becomes of it.
-    pub fn exchange(&mut self, exchange: &Exchange<'t>) {
+    pub fn exchange(&mut self, exchange: &Changed<'t, Change>) {
         self.line = self.line.saturating_add(feeds(exchange.gap()));
         let token = exchange.token();
         match exchange.change() {
@@ -153,7 +154,7 @@ impl<'t> Report<'t> {
     }
 
     /// Reads one token more, of a text in which the loops over messages are made: the other ones are left.
-    pub fn left_loop(&mut self, exchange: &Exchange<'t>) {
+    pub fn left_loop(&mut self, exchange: &Changed<'t, Change>) {
         self.line = self.line.saturating_add(feeds(exchange.gap()));
         let token = exchange.token();
         if matches!(exchange.change(), Change::Left) && token != b":".as_slice() {
