@@ -3,7 +3,7 @@
 ghost use Rattle.std.specs.Prelude.{◌≡◌, IfOk};
 ghost use Rattle.mtype_commas.specs.Changes as changes;
 
-use crate::place::{Place, behind};
+use crate::place::{MtypePlace, behind};
 use pml_token::token::{Kind, same_kind};
 use prepare::changed::Changed;
 use prepare::stretch::Stretch;
@@ -11,7 +11,7 @@ use std::alloc::{AllocError, Global};
 
 /// What becomes of a token.
 #[derive(Clone, Copy)]
-pub enum Change {
+pub enum CommaChange {
     /// It stays.
     Kept,
     /// A blank stands for it, which is a comma.
@@ -33,33 +33,36 @@ fn is_spare(stretches: &[Stretch<'_>]) -> bool
 }
 
 /// What becomes of a token among names, before these stretches.
-fn change_within(is_named: bool, kind: Kind, back: &[Stretch<'_>]) -> Change
+fn change_within(is_named: bool, kind: Kind, back: &[Stretch<'_>]) -> CommaChange
     ensures { result ≡ changes.change_within is_named kind back.now }
 {
     if same_kind(kind, Kind::Comma) && is_spare(back) {
-        Change::Blanked
+        CommaChange::Blanked
     } else if same_kind(kind, Kind::Name) && is_named {
-        Change::Parted
+        CommaChange::Parted
     } else {
-        Change::Kept
+        CommaChange::Kept
     }
 }
 
-fn change_at(place: Place, kind: Kind, back: &[Stretch<'_>]) -> Change
+fn change_at(place: MtypePlace, kind: Kind, back: &[Stretch<'_>]) -> CommaChange
     ensures { result ≡ changes.change_at place kind back.now }
 {
     match place {
-        Place::Within(is_named) => change_within(is_named, kind, back),
-        _ => Change::Kept,
+        MtypePlace::Within(is_named) => change_within(is_named, kind, back),
+        _ => CommaChange::Kept,
     }
 }
 
 /// What becomes of the tokens of a text.
-pub fn changes<'t>(alloc: Global, stretches: &[Stretch<'t>]) -> Result<Vec<Changed<'t, Change>>, AllocError>
+pub fn changes<'t>(
+    alloc: Global,
+    stretches: &[Stretch<'t>],
+) -> Result<Vec<Changed<'t, CommaChange>>, AllocError>
     ensures { IfOk result (λ v. v.items ≡ changes.changes stretches.now) }
 {
     let mut out = Vec::new(alloc);
-    let mut place = Place::Outside;
+    let mut place = MtypePlace::Outside;
     let mut rest = stretches;
     while let [stretch, back @ ..] = rest {
         let kind = stretch.kind();

@@ -1,4 +1,4 @@
-pub mod Counted
+pub mod InlineCount
 pub mod Scopes
 pub mod Tallies
 pub mod Changes

@@ -4,7 +4,7 @@ use Rattle.pml_macros.specs.declared.book.Book.{Book}
 use Rattle.pml_macros.specs.declared.atom.Atom.{Atom}
 use Rattle.pml_macros.specs.declared.atom.Place.{Place}
 use Rattle.pml_macros.specs.Texts.{IsText}
-use Rattle.pml_directives.specs.declared.lines.Line.{Line}
+use Rattle.pml_directives.specs.declared.lines.AtomLine.{AtomLine}
 
 -- the place behind some bytes of a file, and the one behind a byte more
 abbrev pub column_from : ℕ → List ℕ → ℕ
@@ -39,7 +39,7 @@ abbrev pub Stand : Book → List ℕ → List Place → Place → List Atom → 
 Stand b bytes places end xs = All (StandsThere b bytes places end) xs
 
 -- so do all tokens of the lines
-abbrev pub AllStand : Book → List ℕ → List Place → Place → List Line → Type 0
+abbrev pub AllStand : Book → List ℕ → List Place → Place → List AtomLine → Type 0
 AllStand b bytes places end ls = All (λ l. Stand b bytes places end l.atoms.items) ls
 
 -- how many bytes stand before the place of this number
@@ -55,7 +55,7 @@ pub record AreOf (file : ℕ) (text bytes : List ℕ) (places : List Place) : Ty
   pub there : All (λ p. p ≡ place_behind file (take p.offset text)) places
 
 -- all tokens of the lines stand in the text, but for its joints
-pub record StandIn (b : Book) (file : ℕ) (text : List ℕ) (ls : List Line) : Type 0 where
+pub record StandIn (b : Book) (file : ℕ) (text : List ℕ) (ls : List AtomLine) : Type 0 where
   pub bytes : List ℕ
   pub places : List Place
   pub end : Place

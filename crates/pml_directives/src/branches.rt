@@ -4,14 +4,14 @@ ghost use Rattle.std.specs.Prelude.{◌≤◌, length};
 
 use crate::condition::holds;
 use crate::macros::{is_known, replaced};
-use crate::refusal::{Refusal, Why, refused};
+use crate::refusal::{DirectiveRefusal, Why, refused};
 use crate::state::{Open, State};
 use crate::words::Word;
 use pml_macros::atom::{Atom, Place, Sort, same_sort};
 use std::alloc::{AllocError, Global};
 
 /// Whether the name that `#ifdef` asks for is known.
-fn known(state: &State, atoms: &[Atom], place: Place) -> Result<bool, Refusal> {
+fn known(state: &State, atoms: &[Atom], place: Place) -> Result<bool, DirectiveRefusal> {
     match atoms {
         [first, ..] if same_sort(first.sort, Sort::Name) => Ok(is_known(state, first.text)),
         _ => Err(refused(Why::Form, place)),
@@ -66,7 +66,7 @@ fn without_defined(
     state: &mut State,
     atoms: &[Atom],
     place: Place,
-) -> Result<Vec<Atom>, Refusal> {
+) -> Result<Vec<Atom>, DirectiveRefusal> {
     let mut out = Vec::with_capacity(alloc, atoms.len())?;
     let mut rest = atoms;
     while let [atom, others @ ..] = rest {
@@ -87,7 +87,12 @@ fn without_defined(
 }
 
 /// Whether the condition of an `#if` holds.
-fn is_met(alloc: Global, state: &mut State, atoms: &[Atom], place: Place) -> Result<bool, Refusal> {
+fn is_met(
+    alloc: Global,
+    state: &mut State,
+    atoms: &[Atom],
+    place: Place,
+) -> Result<bool, DirectiveRefusal> {
     let plain = without_defined(alloc, state, atoms, place)?;
     let all = replaced(alloc, state, plain, place)?;
     match holds(&state.work.book, &all) {
@@ -109,7 +114,12 @@ fn begin(state: &mut State, is_met: bool, place: Place) -> Result<(), AllocError
 }
 
 /// `#else`, or `#elif` with what its condition is worth.
-fn turn_to(state: &mut State, is_met: bool, is_last: bool, place: Place) -> Result<(), Refusal> {
+fn turn_to(
+    state: &mut State,
+    is_met: bool,
+    is_last: bool,
+    place: Place,
+) -> Result<(), DirectiveRefusal> {
     if state.open.len() <= state.floor {
         return Err(refused(Why::Closer, place));
     }
@@ -131,7 +141,7 @@ fn turn_to(state: &mut State, is_met: bool, is_last: bool, place: Place) -> Resu
 }
 
 /// `#endif`.
-fn end(state: &mut State, place: Place) -> Result<(), Refusal> {
+fn end(state: &mut State, place: Place) -> Result<(), DirectiveRefusal> {
     if state.open.len() <= state.floor {
         return Err(refused(Why::Closer, place));
     }
@@ -154,7 +164,7 @@ pub fn conditional(
     word: Word,
     atoms: &[Atom],
     place: Place,
-) -> Result<bool, Refusal> {
+) -> Result<bool, DirectiveRefusal> {
     let live = state.is_live();
     match word {
         Word::If => {

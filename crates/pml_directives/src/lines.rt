@@ -3,7 +3,7 @@
 ghost use Rattle.std.specs.Prelude.{◌≡◌, ◌<◌, ◌^◌, length, slice_index_or, IfOk};
 ghost use Rattle.pml_directives.specs.Places.{AllStand, StandIn};
 
-use crate::refusal::{Refusal, Why, refused};
+use crate::refusal::{DirectiveRefusal, Why, refused};
 use crate::splices::without_joints;
 use pml_macros::atom::{Atom, Place, Sort};
 use pml_macros::book::Book;
@@ -12,7 +12,7 @@ use std::alloc::Global;
 
 /// A line: its tokens, and the place behind them.
 #[derive(Drop)]
-pub struct Line {
+pub struct AtomLine {
     pub atoms: Vec<Atom>,
     pub end: Place,
 }
@@ -46,7 +46,7 @@ fn cut(
     bytes: &[u8],
     places: &[Place],
     last: Place,
-) -> Result<Vec<Line>, Refusal>
+) -> Result<Vec<AtomLine>, DirectiveRefusal>
     ensures { IfOk result (λ v. AllStand book.new bytes.now places.now last v.items) }
 {
     let mut lines = Vec::new(alloc);
@@ -62,7 +62,7 @@ fn cut(
             Lexeme::Blank => is_spaced = true,
             Lexeme::Unclosed => return Err(refused(Why::Comment, place)),
             Lexeme::LineFeed => {
-                lines.push(Line { atoms, end: place })?;
+                lines.push(AtomLine { atoms, end: place })?;
                 atoms = Vec::new(alloc);
                 is_spaced = true;
             }
@@ -75,12 +75,17 @@ fn cut(
         at += length;
         rest = back;
     }
-    lines.push(Line { atoms, end: last })?;
+    lines.push(AtomLine { atoms, end: last })?;
     Ok(lines)
 }
 
 /// The lines of a file, whose tokens stand where their places say.
-pub fn lines(alloc: Global, book: &mut Book, file: u32, text: &[u8]) -> Result<Vec<Line>, Refusal>
+pub fn lines(
+    alloc: Global,
+    book: &mut Book,
+    file: u32,
+    text: &[u8],
+) -> Result<Vec<AtomLine>, DirectiveRefusal>
     requires { length text.now < 2 ^ 31 }
     ensures { IfOk result (λ v. StandIn book.new file text.now v.items) }
 {

@@ -1,8 +1,8 @@
 //! The macros of a text: which are defined, and what comes of tokens that name them.
 
 use crate::definition::definition;
-use crate::refusal::{Refusal, Why, of_trouble, refused};
-use crate::state::{Note, Remark, State};
+use crate::refusal::{DirectiveRefusal, Why, of_trouble, refused};
+use crate::state::{PlacedRemark, Remark, State};
 use pml_macros::atom::{Atom, Place, Sort, same_sort};
 use pml_macros::calls::replaced_calls;
 use pml_macros::table::{Macro, Part, Role};
@@ -96,7 +96,7 @@ pub fn replaced(
     state: &mut State,
     atoms: Vec<Atom>,
     place: Place,
-) -> Result<Vec<Atom>, Refusal> {
+) -> Result<Vec<Atom>, DirectiveRefusal> {
     let mut atoms = atoms;
     tell_places(alloc, state, &mut atoms)?;
     if !names_macro(state, &atoms) {
@@ -112,7 +112,7 @@ pub fn replaced(
 }
 
 /// Replaces the calls in what came since the last `#` line.
-pub fn flush(alloc: Global, state: &mut State) -> Result<(), Refusal> {
+pub fn flush(alloc: Global, state: &mut State) -> Result<(), DirectiveRefusal> {
     let run = std::mem::replace(&mut state.run, Vec::new(alloc));
     let [first, ..] = run.as_slice() else {
         return Ok(());
@@ -155,7 +155,7 @@ pub fn define(
     state: &mut State,
     atoms: &[Atom],
     place: Place,
-) -> Result<(), Refusal> {
+) -> Result<(), DirectiveRefusal> {
     match definition(alloc, atoms)? {
         None => Err(refused(Why::Form, place)),
         Some(made) => {
@@ -164,7 +164,7 @@ pub fn define(
             }
             if is_again(state, &made) {
                 let remark = Remark::Again(made.name);
-                state.notes.push(Note { remark, place })?;
+                state.notes.push(PlacedRemark { remark, place })?;
             }
             state.table.define(made)?;
             Ok(())
@@ -173,7 +173,7 @@ pub fn define(
 }
 
 /// `#undef`.
-pub fn undefine(state: &mut State, atoms: &[Atom], place: Place) -> Result<(), Refusal> {
+pub fn undefine(state: &mut State, atoms: &[Atom], place: Place) -> Result<(), DirectiveRefusal> {
     match atoms {
         [first, ..] if same_sort(first.sort, Sort::Name) => {
             state.table.forget(first.text);

@@ -33,18 +33,18 @@ pub enum Why {
 
 /// Why a text is refused, and where.
 #[derive(Clone, Copy, Debug)]
-pub struct Refusal {
+pub struct DirectiveRefusal {
     pub why: Why,
     pub place: Place,
 }
 
 /// A refusal at a place.
-pub fn refused(why: Why, place: Place) -> Refusal {
-    Refusal { why, place }
+pub fn refused(why: Why, place: Place) -> DirectiveRefusal {
+    DirectiveRefusal { why, place }
 }
 
 /// What macros were in trouble with, as a refusal: of a call at the call.
-pub fn of_trouble(trouble: Trouble, place: Place) -> Refusal {
+pub fn of_trouble(trouble: Trouble, place: Place) -> DirectiveRefusal {
     match trouble {
         Trouble::Memory => refused(Why::Memory, place),
         Trouble::Open(atom) => refused(Why::Call(trouble), atom.call),
@@ -63,14 +63,14 @@ const NOWHERE: Place = Place {
     column: 1,
 };
 
-impl From<AllocError> for Refusal {
-    fn from(_: AllocError) -> Refusal {
+impl From<AllocError> for DirectiveRefusal {
+    fn from(_: AllocError) -> DirectiveRefusal {
         refused(Why::Memory, NOWHERE)
     }
 }
 
-impl<T: Drop> From<AllocFailed<T>> for Refusal {
-    fn from(_: AllocFailed<T>) -> Refusal {
+impl<T: Drop> From<AllocFailed<T>> for DirectiveRefusal {
+    fn from(_: AllocFailed<T>) -> DirectiveRefusal {
         refused(Why::Memory, NOWHERE)
     }
 }

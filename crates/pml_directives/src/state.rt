@@ -68,7 +68,7 @@ pub enum Remark {
 
 /// A remark, and where it belongs.
 #[derive(Clone, Copy, Debug)]
-pub struct Note {
+pub struct PlacedRemark {
     pub remark: Remark,
     pub place: Place,
 }
@@ -84,7 +84,7 @@ pub struct State {
     pub names: Vec<Vec<u8>>,
     /// The line of the model's own file on which each is included.
     pub homes: Vec<u32>,
-    pub notes: Vec<Note>,
+    pub notes: Vec<PlacedRemark>,
     /// The names of macros that were given before the text.
     pub given: Vec<usize>,
     /// What came since the last `#` line.

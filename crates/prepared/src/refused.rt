@@ -3,8 +3,8 @@
 use crate::disk::bytes_of;
 use crate::shown::{shown, shown_name};
 use crate::unprepared::Unprepared;
-use pml_directives::refusal::{Refusal, Why};
-use pml_directives::state::{Note, Remark, State};
+use pml_directives::refusal::{DirectiveRefusal, Why};
+use pml_directives::state::{PlacedRemark, Remark, State};
 use pml_macros::atom::{Atom, Place};
 use pml_macros::trouble::Trouble;
 use source_lines::position::line_of;
@@ -13,7 +13,7 @@ use std::alloc::{AllocError, Global};
 
 /// The texts that were read: the model's own, and the lines that stand for options.
 #[derive(Clone, Copy)]
-pub struct Read<'t> {
+pub struct ReadTexts<'t> {
     pub text: &'t [u8],
     pub given: &'t [u8],
 }
@@ -106,7 +106,7 @@ fn add_line(text: &[u8], place: Place, out: &mut String) -> Result<(), AllocErro
 fn add_its_line(
     rt: &HostRuntime,
     state: &State,
-    read: Read<'_>,
+    read: ReadTexts<'_>,
     place: Place,
     out: &mut String,
 ) -> Result<(), AllocError> {
@@ -124,8 +124,8 @@ fn add_its_line(
 fn told(
     rt: &HostRuntime,
     state: &State,
-    read: Read<'_>,
-    refusal: Refusal,
+    read: ReadTexts<'_>,
+    refusal: DirectiveRefusal,
 ) -> Result<String, AllocError> {
     let alloc = rt.alloc();
     let mut out = told_place(alloc, state, refusal.place)?;
@@ -147,8 +147,8 @@ fn told(
 pub fn unprepared_of(
     rt: &HostRuntime,
     state: &State,
-    read: Read<'_>,
-    refusal: Refusal,
+    read: ReadTexts<'_>,
+    refusal: DirectiveRefusal,
 ) -> Unprepared {
     if matches!(refusal.why, Why::Memory) || matches!(refusal.why, Why::Call(Trouble::Memory)) {
         return Unprepared::Memory;
@@ -166,8 +166,8 @@ pub fn unprepared_of(
 fn told_note(
     rt: &HostRuntime,
     state: &State,
-    read: Read<'_>,
-    note: &Note,
+    read: ReadTexts<'_>,
+    note: &PlacedRemark,
 ) -> Result<String, AllocError> {
     let alloc = rt.alloc();
     let mut out = told_place(alloc, state, note.place)?;
@@ -185,7 +185,7 @@ fn told_note(
 }
 
 /// Says what a text that is not refused wants to be said. What memory is refused for is left out.
-pub fn tell_notes(rt: &HostRuntime, state: &State, read: Read<'_>) {
+pub fn tell_notes(rt: &HostRuntime, state: &State, read: ReadTexts<'_>) {
     for note in &state.notes {
         if let Ok(words) = told_note(rt, state, read, note) {
             let words = words.as_str();
