@@ -1,6 +1,6 @@
 //! Why a text is refused.
 
-use pml_macros::atom::Place;
+use pml_macros::atom::FilePlace;
 use pml_macros::trouble::Trouble;
 use std::alloc::{AllocError, AllocFailed};
 
@@ -35,16 +35,16 @@ pub enum Why {
 #[derive(Clone, Copy, Debug)]
 pub struct DirectiveRefusal {
     pub why: Why,
-    pub place: Place,
+    pub place: FilePlace,
 }
 
 /// A refusal at a place.
-pub fn refused(why: Why, place: Place) -> DirectiveRefusal {
+pub fn refused(why: Why, place: FilePlace) -> DirectiveRefusal {
     DirectiveRefusal { why, place }
 }
 
 /// What macros were in trouble with, as a refusal: of a call at the call.
-pub fn of_trouble(trouble: Trouble, place: Place) -> DirectiveRefusal {
+pub fn of_trouble(trouble: Trouble, place: FilePlace) -> DirectiveRefusal {
     match trouble {
         Trouble::Memory => refused(Why::Memory, place),
         Trouble::Open(atom) => refused(Why::Call(trouble), atom.call),
@@ -56,7 +56,7 @@ pub fn of_trouble(trouble: Trouble, place: Place) -> DirectiveRefusal {
 }
 
 /// Where memory is refused no place is told.
-const NOWHERE: Place = Place {
+const NOWHERE: FilePlace = FilePlace {
     file: 0,
     offset: 0,
     line: 1,

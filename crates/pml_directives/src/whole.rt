@@ -7,7 +7,7 @@ use crate::macros::{define, flush, replaced, undefine};
 use crate::refusal::{DirectiveRefusal, Why, refused};
 use crate::state::{PlacedRemark, Remark, Shift, State};
 use crate::words::{Word, word_of};
-use pml_macros::atom::{Atom, Place, Sort, same_sort};
+use pml_macros::atom::{Atom, AtomSort, FilePlace, same_sort};
 use pml_macros::book::owned;
 use std::alloc::{AllocError, Global};
 
@@ -65,7 +65,7 @@ fn wanted_by(
     alloc: Global,
     state: &mut State,
     atoms: &[Atom],
-    place: Place,
+    place: FilePlace,
 ) -> Result<Target, DirectiveRefusal> {
     if let Some(wanted) = wanted(alloc, state, atoms)? {
         return Ok(wanted);
@@ -95,7 +95,7 @@ fn included<F: Files>(
     state: &mut State,
     files: &mut F,
     atoms: &[Atom],
-    place: Place,
+    place: FilePlace,
 ) -> Result<FoundFile, DirectiveRefusal> {
     let Target { name, is_quoted } = wanted_by(alloc, state, atoms, place)?;
     if state.names.len() >= MOST_FILES {
@@ -108,7 +108,7 @@ fn included<F: Files>(
 }
 
 /// `#pragma`: of all of them `once` alone is known.
-fn pragma(state: &mut State, atoms: &[Atom], place: Place) -> Result<(), AllocError> {
+fn pragma(state: &mut State, atoms: &[Atom], place: FilePlace) -> Result<(), AllocError> {
     if let [first, ..] = atoms {
         if matches!(state.text(first), b"once") {
             state.once.push(place.file as usize)?;
@@ -130,7 +130,11 @@ fn line_number(text: &[u8]) -> Option<u32> {
 }
 
 /// `#line` or a mark: the line behind it has this number.
-fn count_lines(state: &mut State, atoms: &[Atom], place: Place) -> Result<(), DirectiveRefusal> {
+fn count_lines(
+    state: &mut State,
+    atoms: &[Atom],
+    place: FilePlace,
+) -> Result<(), DirectiveRefusal> {
     let number = match atoms {
         [first, ..] => line_number(state.text(first)),
         [] => None,
@@ -164,7 +168,7 @@ fn plain(
     state: &mut State,
     word: Word,
     atoms: &[Atom],
-    place: Place,
+    place: FilePlace,
 ) -> Result<(), DirectiveRefusal> {
     match word {
         Word::Define => define(alloc, state, atoms, place),
@@ -194,7 +198,7 @@ fn directive(
     alloc: Global,
     state: &mut State,
     atoms: &[Atom],
-    place: Place,
+    place: FilePlace,
 ) -> Result<Further, DirectiveRefusal> {
     flush(alloc, state)?;
     let word = word_of(state, atoms);
@@ -215,7 +219,7 @@ fn directive(
 /// Does a line.
 fn line(alloc: Global, state: &mut State, line: &AtomLine) -> Result<Further, DirectiveRefusal> {
     match line.atoms.as_slice() {
-        [first, others @ ..] if same_sort(first.sort, Sort::Hash) => {
+        [first, others @ ..] if same_sort(first.sort, AtomSort::Hash) => {
             directive(alloc, state, others, first.place)
         }
         all => {
@@ -228,7 +232,7 @@ fn line(alloc: Global, state: &mut State, line: &AtomLine) -> Result<Further, Di
 }
 
 /// Where an `#include` stands, of a line that is one.
-fn place_of(line: &AtomLine) -> Place {
+fn place_of(line: &AtomLine) -> FilePlace {
     match line.atoms.as_slice() {
         [first, ..] => first.place,
         [] => line.end,
@@ -290,7 +294,7 @@ fn lines_of(
     if text.len() > MOST_FILE_BYTES || text.len() > state.bytes_left {
         return Err(refused(
             Why::Long,
-            Place {
+            FilePlace {
                 file: number,
                 offset: 0,
                 line: 1,

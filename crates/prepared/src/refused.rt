@@ -5,7 +5,7 @@ use crate::shown::{shown, shown_name};
 use crate::unprepared::Unprepared;
 use pml_directives::refusal::{DirectiveRefusal, Why};
 use pml_directives::state::{PlacedRemark, Remark, State};
-use pml_macros::atom::{Atom, Place};
+use pml_macros::atom::{Atom, FilePlace};
 use pml_macros::trouble::Trouble;
 use source_lines::position::line_of;
 use source_lines::shown::show_line;
@@ -19,7 +19,7 @@ pub struct ReadTexts<'t> {
 }
 
 // Where something stands, as it is told: the file, its line and its column.
-fn told_place(alloc: Global, state: &State, place: Place) -> Result<String, AllocError> {
+fn told_place(alloc: Global, state: &State, place: FilePlace) -> Result<String, AllocError> {
     let name = String::from_utf8_lossy(alloc, state.name(place.file))?;
     let name = shown_name(alloc, name.as_str())?;
     let name = name.as_str();
@@ -95,7 +95,7 @@ fn add_own_place(
 }
 
 // The line of a place, with a mark below it.
-fn add_line(text: &[u8], place: Place, out: &mut String) -> Result<(), AllocError> {
+fn add_line(text: &[u8], place: FilePlace, out: &mut String) -> Result<(), AllocError> {
     let offset = place.offset as usize;
     let line = line_of(text, offset);
     let onset = offset.saturating_sub(line.start);
@@ -107,7 +107,7 @@ fn add_its_line(
     rt: &HostRuntime,
     state: &State,
     read: ReadTexts<'_>,
-    place: Place,
+    place: FilePlace,
     out: &mut String,
 ) -> Result<(), AllocError> {
     match place.file {
