@@ -4,7 +4,7 @@ ghost use Rattle.std.specs.Prelude.{◌≡◌, List, [], ℕ, All};
 ghost use Rattle.prepare.specs.Stretches.{stretches};
 ghost use Rattle.prepare.specs.Written.{Written};
 ghost use Rattle.record_messages.specs.Member.{Member};
-ghost use Rattle.record_messages.specs.Variable.{Variable};
+ghost use Rattle.record_messages.specs.DeclaredName.{DeclaredName};
 ghost use Rattle.record_messages.specs.Changes.{changes};
 ghost use Rattle.record_messages.specs.Writing.{written};
 ghost use Rattle.record_messages.specs.Laws.{owns, IsOwn};

@@ -1,7 +1,7 @@
 -- A token with what becomes of it.
 use Rattle.std.specs.Prelude.{ℕ, List}
 use Rattle.pml_token.specs.declared.token.Kind.{Kind}
-use Rattle.record_messages.specs.declared.changes.Change.{Change}
+use Rattle.record_messages.specs.declared.changes.MessageChange.{MessageChange}
 
 -- a loop over messages: its number, its variable, and its channel with the index of that, if it has one
 pub record Loop : Type 0 where
@@ -10,11 +10,11 @@ pub record Loop : Type 0 where
   pub channel : List ℕ
   pub index : List ℕ
 
-pub record Changed : Type 0 where
+pub record MessageToken : Type 0 where
   -- the blanks and comments before it
   pub gap : List ℕ
   pub token : List ℕ
   pub kind : Kind
-  pub change : Change
+  pub change : MessageChange
   -- the last loop over messages
   pub loop : Loop
