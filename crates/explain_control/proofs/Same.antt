@@ -18,7 +18,7 @@ use Rattle.explain_control.specs.declared.site.PostSite.{PostSite}
 use Rattle.explain_control.specs.declared.body.BadFirstPoint.{BadFirstPoint}
 use Rattle.explain_control.specs.declared.body.Circle.{Circle}
 use Rattle.explain_control.specs.Sites.{site, bare, first_line, matter_of, sites_in, sites_arm, sites_row, sites_options, sites_list, sites_of}
-use Rattle.explain_control.specs.Blamed.{is_else, site_at, bad_point, bad_matter, is_bad, is_bad_step, stays_at, NoneIsBad, IsFirstBad, IsStep, NoStepIsBad, IsBlamedStep, Returns, IsBlamedCircle}
+use Rattle.explain_control.specs.Blamed.{is_else, site_at, bad_point, bad_matter, is_bad, is_bad_step, stays_at, NoneIsBad, IsFirstBad, IsStep, NoStepIsBad, IsBlamedStep, IsRound, IsBlamedCircle}
 
 abbrev step_of : PostMatter → Option (ℕ × ℕ)
 step_of (matter.DStep least first) = Some (least, first)
@@ -169,10 +169,10 @@ module _ (b : Seq) (ss : List PostSite) (es : List Ending) (is : ss ≡ sites_of
     marked = λ t. marked (sym says ∙ t) ∙ ap (λ xs. (site_at xs point).offset) is;
   }
 
-pub circled : (b : Seq) (ss : List PostSite) (ns : List (Option ℕ)) (k : ℕ) (x : Circle) → ss ≡ sites_of b → ns ≡ nexts (posts_of b) → Returns ns k → x.goto ≡ (site_at ss k).offset → IsBlamedCircle b x
+pub circled : (b : Seq) (ss : List PostSite) (ns : List (Option ℕ)) (k : ℕ) (x : Circle) → ss ≡ sites_of b → ns ≡ nexts (posts_of b) → IsRound ss ns k x.labels.items → x.goto ≡ (site_at ss k).offset → IsBlamedCircle b x
 circled b ss ns k x is same h e = record {
   post = k;
-  returns = subst (λ (ns : List (Option ℕ)). Returns ns k) same h;
+  round = subst (λ (ns : List (Option ℕ)). IsRound (sites_of b) ns k x.labels.items) same (subst (λ (xs : List PostSite). IsRound xs ns k x.labels.items) is h);
   goto = e ∙ ap (λ xs. (site_at xs k).offset) is;
 }
 

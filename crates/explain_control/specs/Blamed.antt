@@ -1,14 +1,15 @@
 -- What breaks a condition on control, by the posts of a body.
-use Rattle.std.specs.Prelude.{◌≡◌, ℕ, suc, ◌<◌, Bool, true, false, ◌||◌, nat_lt, List, [], ◌∷◌, ◌++◌, length, Option, Some, None, slice_index_or}
+use Rattle.std.specs.Prelude.{◌≡◌, ◌≢◌, ◌⊎◌, ℕ, zero, suc, ◌<◌, Bool, true, false, ◌||◌, nat_lt, List, [], ◌∷◌, ◌++◌, length, Option, Some, None, unwrap_or, slice_index_or}
 use Rattle.pml_program.specs.declared.program.Seq.{Seq}
 use Rattle.pml_program.specs.declared.program.Proctype.{Proctype}
 use Rattle.pml_control.specs.declared.ends.Ending.{Ending}
 use Rattle.pml_control.specs.declared.ends.Ending.TheVariants as ending
-use Rattle.pml_control.specs.Ends.{Leads, ending_of, AreEnds}
+use Rattle.pml_control.specs.Ends.{next_of, Leads, ending_of, AreEnds}
 use Rattle.pml_control.specs.Graph.{posts_of, nexts, spot_of, bad_step}
 use Rattle.explain_control.specs.declared.site.PostMatter.{PostMatter}
 use Rattle.explain_control.specs.declared.site.PostMatter.TheVariants as matter
 use Rattle.explain_control.specs.declared.site.PostSite.{PostSite}
+use Rattle.explain_control.specs.declared.site.Label.{Label}
 use Rattle.explain_control.specs.declared.body.BadFirstPoint.{BadFirstPoint}
 use Rattle.explain_control.specs.declared.body.Circle.{Circle}
 use Rattle.explain_control.specs.declared.first_point.BadStep.{BadStep}
@@ -118,10 +119,38 @@ pub record IsBlamedStep (b : Seq) (x : BadFirstPoint) : Type 0 where
   pub says : x.is_else ≡ (spot_of (posts_of b) point).is_else
   pub marked : x.is_else ≡ true → x.point ≡ (site_at (sites_of b) point).offset
 
--- the goto stands in a circle
+-- no chain comes to a circle
+abbrev pub NoneCircles : List Ending → Type 0
+NoneCircles es = (k : ℕ) → ending_of es k ≢ ending.Circles
+
+-- the label that a goto names
+abbrev pub own_label : PostMatter → List Label
+own_label (matter.Goto l) = l ∷ []
+own_label m = []
+
+-- the labels that the gotos among the first so many posts of a chain name
+abbrev pub labels_along : List PostSite → List (Option ℕ) → ℕ → ℕ → List Label
+labels_along ss ns zero k = []
+labels_along ss ns (suc n) k = own_label (site_at ss k).matter ++ labels_along ss ns n (unwrap_or (next_of ns k) k)
+
+-- the labels on the way round from a post back to it, or, were there none, past as many posts as there are
+pub record IsRound (ss : List PostSite) (ns : List (Option ℕ)) (k : ℕ) (ls : List Label) : Type 0 where
+  pub count : ℕ
+  pub round : Leads ns count k k ⊎ (count ≡ length ns)
+  pub first : (n : ℕ) → suc n < count → Leads ns (suc n) k k → ⊥
+  pub labels : ls ≡ labels_along ss ns count k
+  pub returns : Returns ns k
+
+-- a body without a circle, by where its chains end
+pub record NoCircle (b : Seq) : Type 0 where
+  pub ends : List Ending
+  pub are : AreEnds (nexts (posts_of b)) ends
+  pub none : NoneCircles ends
+
+-- the goto stands in a circle of the body, and the labels are those on the way round it
 pub record IsBlamedCircle (b : Seq) (x : Circle) : Type 0 where
   pub post : ℕ
-  pub returns : Returns (nexts (posts_of b)) post
+  pub round : IsRound (sites_of b) (nexts (posts_of b)) post x.labels.items
   pub goto : x.goto ≡ (site_at (sites_of b) post).offset
 
 -- the same in the body of one of these

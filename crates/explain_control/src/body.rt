@@ -1,8 +1,8 @@
 //! What is told of a body.
 
-ghost use Rattle.std.specs.Prelude.{true, ◌≡◌, ◌++◌, IfOk, OnOk, MatchOption, IfSome};
+ghost use Rattle.std.specs.Prelude.{true, ◌≡◌, ◌++◌, IfOk, OnOk, MatchOption};
 ghost use Rattle.explain_control.specs.Sites.{sites_of};
-ghost use Rattle.explain_control.specs.Blamed.{site_at, is_else, breaks_in, NoStepIsBad, IsBlamedStep, IsBlamedCircle};
+ghost use Rattle.explain_control.specs.Blamed.{site_at, is_else, breaks_in, NoStepIsBad, IsBlamedStep, NoCircle, IsBlamedCircle};
 
 use crate::circle::{first_circling, labels_of};
 use crate::first_point::{BadStep, first_bad, first_leap, is_else};
@@ -99,11 +99,11 @@ pub fn first_point_of(alloc: Global, body: &Seq<'_>) -> Result<Option<BadFirstPo
 
 /// The circle that the first position of a body from which settling never ends comes to.
 pub fn circle_of(alloc: Global, body: &Seq<'_>) -> Result<Option<Circle>, AllocError>
-    ensures { IfOk result (λ o. IfSome o (λ c. IsBlamedCircle body.now c)) }
+    ensures { IfOk result (λ o. MatchOption o (NoCircle body.now) (λ c. IsBlamedCircle body.now c)) }
 {
     let plan = examine(alloc, body)?;
     let sites = sites(alloc, body)?;
-    let Some(goto) = first_circling(&sites, plan.next(), plan.ends()) else {
+    let Some(goto) = first_circling(alloc, &sites, plan.next(), plan.ends())? else {
         return Ok(None);
     };
     Ok(Some(Circle {
