@@ -128,21 +128,22 @@ module _ (ns : List (Option ℕ)) where
 
     pub round_back : (more : List Label) → Returns ns post → more ≡ ls ++ own_label (site_at ss here).matter → next_of ns here ≡ Some post → IsRound ss ns post more
     round_back more r e h = record {
-      count = suc n;
+      more = n;
       round = inl (leads_on ns n post here post leads h);
-      first = λ m l. first m (omega (arith, l));
+      first = first;
       labels = more_labels more e;
       returns = r;
     }
 
-    pub round_out : Returns ns post → n ≡ length ns → IsRound ss ns post ls
-    round_out r e = record {
-      count = n;
-      round = inr e;
-      first = λ m l. first m (omega (arith, l));
-      labels = is;
-      returns = r;
-    }
+  pub round_out : (ss : List PostSite) (n post : ℕ) (ls : List Label) → ((m : ℕ) → m < n → Leads ns (suc m) post post → ⊥) → ls ≡ labels_along ss ns n post → Returns ns post → n ≡ length ns → IsRound ss ns post ls
+  round_out ss zero post ls first is r e = absurd (circling_goes post (returning post r) (beyond ns post (omega (arith, e))))
+  round_out ss (suc n) post ls first is r e = record {
+    more = n;
+    round = inr e;
+    first = λ m l. first m (omega (arith, l));
+    labels = is;
+    returns = r;
+  }
 
 pub one_more : (P : ℕ → Type 0) (n : ℕ) → P (suc n) → P (n + 1)
 one_more P n h = subst P (let e : suc n ≡ n + 1 = omega arith in e) h

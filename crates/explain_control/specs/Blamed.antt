@@ -135,10 +135,10 @@ labels_along ss ns (suc n) k = own_label (site_at ss k).matter ++ labels_along s
 
 -- the labels on the way round from a post back to it, or, were there none, past as many posts as there are
 pub record IsRound (ss : List PostSite) (ns : List (Option ℕ)) (k : ℕ) (ls : List Label) : Type 0 where
-  pub count : ℕ
-  pub round : Leads ns count k k ⊎ (count ≡ length ns)
-  pub first : (n : ℕ) → suc n < count → Leads ns (suc n) k k → ⊥
-  pub labels : ls ≡ labels_along ss ns count k
+  pub more : ℕ
+  pub round : Leads ns (suc more) k k ⊎ (suc more ≡ length ns)
+  pub first : (n : ℕ) → n < more → Leads ns (suc n) k k → ⊥
+  pub labels : ls ≡ labels_along ss ns (suc more) k
   pub returns : Returns ns k
 
 -- a body without a circle, by where its chains end

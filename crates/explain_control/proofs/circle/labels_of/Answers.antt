@@ -31,4 +31,4 @@ loop-preserved c =
 pub returns : goal.returns
 returns c =
     let i = c.loop.invariant in
-    round_out c.args.next.now c.args.sites.now c.loop.index c.args.post c.loop.here c.loop.labels.items i.leads i.first i.labels c.requires (omega (arith, c.loop-test.false, c.loop.auto.index-end))
+    round_out c.args.next.now c.args.sites.now c.loop.index c.args.post c.loop.labels.items i.first i.labels c.requires (omega (arith, c.loop-test.false, c.loop.auto.index-end))
