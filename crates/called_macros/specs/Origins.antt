@@ -2,7 +2,7 @@
 use Rattle.std.specs.Prelude.{ℕ, ◌+◌, ◌-◌, Bool, not, ◌&&◌, ◌||◌, ◌==◌, nat_lt, nat_le, max, if◌then◌else◌, List, [], ◌∷◌, length, Option, Some, None, slice_get, slice_index_or}
 use Rattle.std.specs.Str.{bytes_eq}
 use Rattle.pml_macros.specs.declared.atom.Atom.{Atom}
-use Rattle.pml_macros.specs.declared.atom.Place.{Place}
+use Rattle.pml_macros.specs.declared.atom.FilePlace.{FilePlace}
 use Rattle.pml_macros.specs.Texts.{text_in}
 use Rattle.prepare.specs.Written.{Written}
 use Rattle.prepare.specs.Stretches.{stretches}
@@ -14,7 +14,7 @@ abbrev pub is_body : Atom → Bool
 is_body a = not (a.place.file == a.call.file) || nat_lt a.place.offset a.call.offset
 
 -- on which line of the model's own file something is written: its line there, or that on which its file is included
-abbrev pub home : List ℕ → Place → ℕ
+abbrev pub home : List ℕ → FilePlace → ℕ
 home homes p = if p.file == 0 then p.line else slice_index_or homes p.file 1
 
 -- the tokens with these bytes on a line, where a line is written that no later token stands before

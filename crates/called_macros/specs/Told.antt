@@ -4,7 +4,7 @@ use Rattle.std.specs.List.{flat_map}
 use Rattle.std.specs.Str.{is_utf8}
 use Rattle.std.specs.Fmt.{decimal}
 use Rattle.pml_macros.specs.declared.atom.Atom.{Atom}
-use Rattle.pml_macros.specs.declared.atom.Place.{Place}
+use Rattle.pml_macros.specs.declared.atom.FilePlace.{FilePlace}
 use Rattle.pml_macros.specs.Texts.{text_in}
 use Rattle.source_lines.specs.Signs.{shown_character}
 use Rattle.source_lines.specs.Places.{start_at, line_at}
@@ -22,7 +22,7 @@ name_told name = if is_utf8 name then flat_map shown_character (chars name) else
 abbrev pub file_told : Origin → ℕ → List ℕ
 file_told o file = name_told (name_of o file)
 
-abbrev pub place_told : Origin → Place → List ℕ
+abbrev pub place_told : Origin → FilePlace → List ℕ
 place_told o p = file_told o p.file ++ (codes ":" ++ (decimal p.line ++ (codes ":" ++ decimal p.column)))
 
 -- where a token of a macro stands, and where the macro is called that it came of

@@ -4,7 +4,7 @@ ghost use Rattle.std.specs.Prelude.{◌≡◌, IfOk};
 ghost use Rattle.std.specs.List.{list_any};
 ghost use Rattle.called_macros.specs.Origins as origins;
 
-use pml_macros::atom::{Atom, Place};
+use pml_macros::atom::{Atom, FilePlace};
 use pml_macros::book::Book;
 use prepare::stretch::Stretch;
 use prepare::stretches::stretches;
@@ -41,7 +41,7 @@ pub fn has_body(atoms: &[Atom]) -> bool
 }
 
 // On which line of the model's own file something is written.
-fn home(homes: &[u32], call: Place) -> u32
+fn home(homes: &[u32], call: FilePlace) -> u32
     ensures { result ≡ origins.home homes.now call }
 {
     let file = call.file as usize;

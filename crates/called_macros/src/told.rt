@@ -4,7 +4,7 @@ ghost use Rattle.std.specs.Prelude.{◌≡◌, ◌++◌, OnOk, string_bytes};
 ghost use Rattle.called_macros.specs.Told as told;
 
 use crate::origin::Origin;
-use pml_macros::atom::{Atom, Place};
+use pml_macros::atom::{Atom, FilePlace};
 use source_lines::position::line_of;
 use source_lines::shown::{push_number, show_chars, show_line};
 use std::alloc::AllocError;
@@ -33,7 +33,7 @@ fn push_file(out: &mut String, origin: &Origin, file: u32) -> Result<(), AllocEr
 }
 
 // Adds a place: the file, its line and its column.
-fn push_place(out: &mut String, origin: &Origin, place: Place) -> Result<(), AllocError>
+fn push_place(out: &mut String, origin: &Origin, place: FilePlace) -> Result<(), AllocError>
     ensures { OnOk result (string_bytes out.new ≡ string_bytes out.old ++ told.place_told origin.now place) }
 {
     push_file(out, origin, place.file)?;

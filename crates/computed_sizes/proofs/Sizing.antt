@@ -4,20 +4,20 @@ use Rattle.std.specs.Fmt.{digits}
 use lib.Chars.{codes}
 use Rattle.promela_text.specs.Tables.{reserved, word_kind}
 use Rattle.pml_lex.specs.Scanning.{next, comment_end, quote_end}
-use Rattle.prepare.specs.declared.sizes.Reading.{Reading}
+use Rattle.prepare.specs.declared.sizes.DeclarationReading.{DeclarationReading}
 use Rattle.prepare.specs.Contexts.{start}
 use Rattle.prepare.specs.Sizes as sizes
 use Rattle.prepare.specs.Written.{Written}
 use Rattle.prepare.specs.Stretches.{lexeme_at, string_end, stretch, stretches_by, stretches}
 use Rattle.prepare.specs.Laws.{source, sources}
 use Rattle.prepare.proofs.Plain.{sources_are}
-use Rattle.computed_sizes.specs.declared.changes.Place.{Place}
-use Rattle.computed_sizes.specs.declared.changes.Place.TheVariants as place
+use Rattle.computed_sizes.specs.declared.changes.SizePlace.{SizePlace}
+use Rattle.computed_sizes.specs.declared.changes.SizePlace.TheVariants as place
 use Rattle.computed_sizes.specs.Sized.{behind, changes_by, changes}
 use Rattle.computed_sizes.specs.Resizing.{resized}
-use Rattle.computed_sizes.specs.Laws.{owns}
+use Rattle.prepare.specs.Changed.{owns}
 
-owns_are : (p : Place) (r : Reading) (ts : List Written) → owns (changes_by p r ts) ≡ sources ts
+owns_are : (p : SizePlace) (r : DeclarationReading) (ts : List Written) → owns (changes_by p r ts) ≡ sources ts
 owns_are p r [] = refl
 owns_are p r (t ∷ ts) = ap (λ (xs : List ℕ). source t ++ xs) (owns_are (behind p r t.kind ts) (sizes.behind r t.kind t.token) ts)
 

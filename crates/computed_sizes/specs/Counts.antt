@@ -1,8 +1,8 @@
 -- Numbers as digits name them, and what becomes of two of them.
 use Rattle.std.specs.Prelude.{ℕ, ◌+◌, ◌*◌, ◌-◌, ◌/◌, ◌%◌, Bool, ◌||◌, ◌==◌, nat_lt, if◌then◌else◌, List, fold, Option, Some, None, option_map}
 use Rattle.computed_sizes.specs.declared.TheConstants.{MOST_SIZE}
-use Rattle.computed_sizes.specs.declared.count.Step.{Step}
-use Rattle.computed_sizes.specs.declared.count.Step.TheVariants as step
+use Rattle.computed_sizes.specs.declared.count.ProductStep.{ProductStep}
+use Rattle.computed_sizes.specs.declared.count.ProductStep.TheVariants as step
 use Rattle.computed_sizes.specs.declared.count.Sum.{Sum}
 
 -- behind one digit more; what is too large stays so
@@ -27,7 +27,7 @@ abbrev pub added : ℕ → ℕ → Option ℕ
 added m n = if nat_lt MOST_SIZE m || nat_lt MOST_SIZE n then None else bounded (m + n)
 
 -- a product with one number more
-abbrev pub stepped : Step → ℕ → ℕ → Option ℕ
+abbrev pub stepped : ProductStep → ℕ → ℕ → Option ℕ
 stepped step.First m n = Some n
 stepped step.Times m n = times m n
 stepped step.Over m n = if n == 0 then None else Some (m / n)

@@ -5,14 +5,14 @@ ghost use Rattle.computed_sizes.specs.Sized as sized;
 
 use crate::worth::worth;
 use pml_token::token::{Kind, same_kind};
-use prepare::sizes::Reading;
+use prepare::changed::Changed;
+use prepare::sizes::DeclarationReading;
 use prepare::stretch::Stretch;
 use std::alloc::{AllocError, Global};
-use std::marker::Model;
 
 /// What becomes of a token.
 #[derive(Clone, Copy)]
-pub enum Change {
+pub enum SizeChange {
     /// It stays.
     Kept,
     /// A number stands for it, which begins an expression.
@@ -23,7 +23,7 @@ pub enum Change {
 
 /// What is to be done before a token.
 #[derive(Clone, Copy)]
-pub enum Place {
+pub enum SizePlace {
     Outside,
     /// A `[` stands here, and behind it an expression that comes to this number.
     Ahead(u32),
@@ -31,45 +31,6 @@ pub enum Place {
     First(u32),
     /// Another one, or `]`.
     Within,
-}
-
-/// A token, with what becomes of it.
-#[derive(Drop)]
-pub struct Changed<'t> {
-    gap: &'t [u8],
-    token: &'t [u8],
-    change: Change,
-}
-
-impl<'t> Model for Changed<'t> {
-    ghost use Rattle.computed_sizes.specs.Resized.{Resized as Seen};
-
-    ghost Value = { Seen };
-
-    ghost view = { λ c. record { gap = c.gap.now; token = c.token.now; change = c.change } };
-}
-
-impl<'t> Changed<'t> {
-    /// The blanks and comments before the token.
-    pub fn gap(&self) -> &'t [u8]
-        ensures { result.now ≡ self.now.gap }
-    {
-        self.gap
-    }
-
-    /// The token.
-    pub fn token(&self) -> &'t [u8]
-        ensures { result.now ≡ self.now.token }
-    {
-        self.token
-    }
-
-    /// What becomes of it.
-    pub fn change(&self) -> Change
-        ensures { result ≡ self.now.change }
-    {
-        self.change
-    }
 }
 
 // What an expression comes to that stands in brackets at the front of stretches, and has more tokens than one.
@@ -98,81 +59,85 @@ fn is_single(stretches: &[Stretch<'_>]) -> bool
     }
 }
 
-fn ahead(size: Option<u32>) -> Place
+fn ahead(size: Option<u32>) -> SizePlace
     ensures { result ≡ sized.ahead size }
 {
     match size {
         Some(size) => {
             if size == 0 {
-                Place::Outside
+                SizePlace::Outside
             } else {
-                Place::Ahead(size)
+                SizePlace::Ahead(size)
             }
         }
-        None => Place::Outside,
+        None => SizePlace::Outside,
     }
 }
 
 // Behind a token outside of such an expression, before these stretches.
-fn behind_other(reading: Reading, kind: Kind, back: &[Stretch<'_>]) -> Place
+fn behind_other(reading: DeclarationReading, kind: Kind, back: &[Stretch<'_>]) -> SizePlace
     ensures { result ≡ sized.behind_other reading kind back.now }
 {
     if reading.declares(kind) && !reading.is_header {
         ahead(size_ahead(back))
     } else {
-        Place::Outside
+        SizePlace::Outside
     }
 }
 
-fn behind(place: Place, reading: Reading, kind: Kind, back: &[Stretch<'_>]) -> Place
+fn behind(
+    place: SizePlace,
+    reading: DeclarationReading,
+    kind: Kind,
+    back: &[Stretch<'_>],
+) -> SizePlace
     ensures { result ≡ sized.behind place reading kind back.now }
 {
     match place {
-        Place::Outside => behind_other(reading, kind, back),
-        Place::Ahead(size) => Place::First(size),
-        Place::First(_) => Place::Within,
-        Place::Within => {
+        SizePlace::Outside => behind_other(reading, kind, back),
+        SizePlace::Ahead(size) => SizePlace::First(size),
+        SizePlace::First(_) => SizePlace::Within,
+        SizePlace::Within => {
             if same_kind(kind, Kind::CloseBracket) {
-                Place::Outside
+                SizePlace::Outside
             } else {
-                Place::Within
+                SizePlace::Within
             }
         }
     }
 }
 
-fn change_at(place: Place, kind: Kind) -> Change
+fn change_at(place: SizePlace, kind: Kind) -> SizeChange
     ensures { result ≡ sized.change_at place kind }
 {
     match place {
-        Place::First(size) => Change::Number(size),
-        Place::Within => {
+        SizePlace::First(size) => SizeChange::Number(size),
+        SizePlace::Within => {
             if same_kind(kind, Kind::CloseBracket) {
-                Change::Kept
+                SizeChange::Kept
             } else {
-                Change::Blanked
+                SizeChange::Blanked
             }
         }
-        _ => Change::Kept,
+        _ => SizeChange::Kept,
     }
 }
 
 /// What becomes of the tokens of a text.
-pub fn changes<'t>(alloc: Global, stretches: &[Stretch<'t>]) -> Result<Vec<Changed<'t>>, AllocError>
+pub fn changes<'t>(
+    alloc: Global,
+    stretches: &[Stretch<'t>],
+) -> Result<Vec<Changed<'t, SizeChange>>, AllocError>
     ensures { IfOk result (λ v. v.items ≡ sized.changes stretches.now) }
 {
     let mut out = Vec::new(alloc);
-    let mut place = Place::Outside;
-    let mut reading = Reading::start();
+    let mut place = SizePlace::Outside;
+    let mut reading = DeclarationReading::start();
     let mut rest = stretches;
     while let [stretch, back @ ..] = rest {
         let kind = stretch.kind();
         let token = stretch.token();
-        out.push(Changed {
-            gap: stretch.gap(),
-            token,
-            change: change_at(place, kind),
-        })?;
+        out.push(Changed::new(stretch, change_at(place, kind)))?;
         place = behind(place, reading, kind, back);
         reading = reading.behind(kind, token);
         rest = back;

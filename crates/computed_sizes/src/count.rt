@@ -7,7 +7,7 @@ use crate::MOST_SIZE;
 
 /// What is to be done with the next number of a product.
 #[derive(Clone, Copy)]
-pub enum Step {
+pub enum ProductStep {
     /// It is the first.
     First,
     Times,
@@ -21,7 +21,7 @@ pub struct Sum {
     pub before: u32,
     pub is_minus: bool,
     pub product: u32,
-    pub step: Step,
+    pub step: ProductStep,
 }
 
 // The number behind one digit more; what is too large stays so.
@@ -89,20 +89,20 @@ fn added(one: u32, other: u32) -> Option<u32>
 }
 
 // A product with one number more.
-fn stepped(step: Step, product: u32, number: u32) -> Option<u32>
+fn stepped(step: ProductStep, product: u32, number: u32) -> Option<u32>
     ensures { result ≡ counts.stepped step product number }
 {
     match step {
-        Step::First => Some(number),
-        Step::Times => times(product, number),
-        Step::Over => {
+        ProductStep::First => Some(number),
+        ProductStep::Times => times(product, number),
+        ProductStep::Over => {
             if number == 0 {
                 None
             } else {
                 Some(product / number)
             }
         }
-        Step::Rest => {
+        ProductStep::Rest => {
             if number == 0 {
                 None
             } else {
@@ -121,7 +121,7 @@ impl Sum {
             before,
             is_minus,
             product: 0,
-            step: Step::First,
+            step: ProductStep::First,
         }
     }
 

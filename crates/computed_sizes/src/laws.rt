@@ -4,7 +4,7 @@ ghost use Rattle.std.specs.Prelude.{◌≡◌, List, ℕ};
 ghost use Rattle.prepare.specs.Stretches.{stretches};
 ghost use Rattle.computed_sizes.specs.declared.TheConstants.{MOST_SIZE};
 ghost use Rattle.computed_sizes.specs.Sized.{changes};
-ghost use Rattle.computed_sizes.specs.Laws.{owns};
+ghost use Rattle.prepare.specs.Changed.{owns};
 
 /// Nothing is left out of what becomes of the tokens: gaps and tokens, one behind the other, are the text. So what is between tokens stays, and
 /// each token that stays is as it was.

@@ -3,13 +3,13 @@
 ghost use Rattle.std.specs.Prelude.{◌≡◌};
 ghost use Rattle.computed_sizes.specs.Worths as worths;
 
-use crate::count::{Step, Sum, number_of};
+use crate::count::{ProductStep, Sum, number_of};
 use pml_token::token::{Kind, same_kind};
 use prepare::stretch::Stretch;
 
 /// What is known before a token of an expression: its sums, of which the inner ones stand in parentheses of the outer ones.
 #[derive(Clone, Copy)]
-pub struct Course {
+pub struct NestedSums {
     pub inner: Sum,
     pub outer: Sum,
     pub outmost: Sum,
@@ -20,10 +20,10 @@ pub struct Course {
 }
 
 // Behind the word of a product.
-fn multiplied(course: Course, step: Step) -> Course
+fn multiplied(course: NestedSums, step: ProductStep) -> NestedSums
     ensures { result ≡ worths.multiplied course step }
 {
-    Course {
+    NestedSums {
         inner: Sum {
             step,
             ..course.inner
@@ -34,11 +34,11 @@ fn multiplied(course: Course, step: Step) -> Course
 }
 
 // Behind `+` or `-`.
-fn summed(course: Course, is_minus: bool) -> Option<Course>
+fn summed(course: NestedSums, is_minus: bool) -> Option<NestedSums>
     ensures { result ≡ worths.summed course is_minus }
 {
     match course.inner.total() {
-        Some(total) => Some(Course {
+        Some(total) => Some(NestedSums {
             inner: Sum::behind(total, is_minus),
             is_open: true,
             ..course
@@ -48,13 +48,13 @@ fn summed(course: Course, is_minus: bool) -> Option<Course>
 }
 
 // Behind `(`.
-fn entered(course: Course) -> Option<Course>
+fn entered(course: NestedSums) -> Option<NestedSums>
     ensures { result ≡ worths.entered course }
 {
     if course.depth > 1 {
         return None;
     }
-    Some(Course {
+    Some(NestedSums {
         inner: Sum::behind(0, false),
         outer: course.inner,
         outmost: course.outer,
@@ -64,12 +64,12 @@ fn entered(course: Course) -> Option<Course>
 }
 
 // Behind a number.
-fn counted(course: Course, sum: Sum, number: Option<u32>) -> Option<Course>
+fn counted(course: NestedSums, sum: Sum, number: Option<u32>) -> Option<NestedSums>
     ensures { result ≡ worths.counted course sum number }
 {
     match number {
         Some(number) => match sum.with(number) {
-            Some(inner) => Some(Course {
+            Some(inner) => Some(NestedSums {
                 inner,
                 is_open: false,
                 ..course
@@ -81,13 +81,13 @@ fn counted(course: Course, sum: Sum, number: Option<u32>) -> Option<Course>
 }
 
 // Behind `)`.
-fn left(course: Course) -> Option<Course>
+fn left(course: NestedSums) -> Option<NestedSums>
     ensures { result ≡ worths.left course }
 {
     if course.depth == 0 {
         return None;
     }
-    let outside = Course {
+    let outside = NestedSums {
         outer: course.outmost,
         depth: course.depth - 1,
         ..course
@@ -95,7 +95,7 @@ fn left(course: Course) -> Option<Course>
     counted(outside, course.outer, course.inner.total())
 }
 
-fn behind_open(course: Course, kind: Kind, token: &[u8]) -> Option<Course>
+fn behind_open(course: NestedSums, kind: Kind, token: &[u8]) -> Option<NestedSums>
     ensures { result ≡ worths.behind_open course kind token.now }
 {
     match kind {
@@ -105,22 +105,22 @@ fn behind_open(course: Course, kind: Kind, token: &[u8]) -> Option<Course>
     }
 }
 
-fn behind_number(course: Course, kind: Kind) -> Option<Course>
+fn behind_number(course: NestedSums, kind: Kind) -> Option<NestedSums>
     ensures { result ≡ worths.behind_number course kind }
 {
     match kind {
         Kind::Plus => summed(course, false),
         Kind::Minus => summed(course, true),
-        Kind::Star => Some(multiplied(course, Step::Times)),
-        Kind::Slash => Some(multiplied(course, Step::Over)),
-        Kind::Percent => Some(multiplied(course, Step::Rest)),
+        Kind::Star => Some(multiplied(course, ProductStep::Times)),
+        Kind::Slash => Some(multiplied(course, ProductStep::Over)),
+        Kind::Percent => Some(multiplied(course, ProductStep::Rest)),
         Kind::CloseParen => left(course),
         _ => None,
     }
 }
 
 // What is known behind a token.
-fn behind(course: Course, kind: Kind, token: &[u8]) -> Option<Course>
+fn behind(course: NestedSums, kind: Kind, token: &[u8]) -> Option<NestedSums>
     ensures { result ≡ worths.behind course kind token.now }
 {
     if course.is_open {
@@ -131,7 +131,7 @@ fn behind(course: Course, kind: Kind, token: &[u8]) -> Option<Course>
 }
 
 // What the expression comes to that ends here.
-fn ended(course: Course) -> Option<u32>
+fn ended(course: NestedSums) -> Option<u32>
     ensures { result ≡ worths.ended course }
 {
     if course.is_open || course.depth > 0 {
@@ -142,11 +142,11 @@ fn ended(course: Course) -> Option<u32>
 }
 
 // The beginning of an expression.
-fn start() -> Course
+fn start() -> NestedSums
     ensures { result ≡ worths.start }
 {
     let nothing = Sum::behind(0, false);
-    Course {
+    NestedSums {
         inner: nothing,
         outer: nothing,
         outmost: nothing,

@@ -3,8 +3,9 @@
 ghost use Rattle.std.specs.Prelude.{◌≡◌, ◌++◌, IfOk, OnOk};
 ghost use Rattle.computed_sizes.specs.Resizing as resizing;
 
-use crate::changes::{Change, Changed, changes};
+use crate::changes::{SizeChange, changes};
 use itoa::Buffer;
+use prepare::changed::Changed;
 use prepare::stretches::stretches;
 use std::alloc::{AllocError, Global};
 
@@ -27,19 +28,19 @@ fn add_number(out: &mut Vec<u8>, number: u32) -> Result<(), AllocError>
     out.extend_from_slice(digits.format(number).as_bytes())
 }
 
-fn add_changed(out: &mut Vec<u8>, changed: &Changed<'_>) -> Result<(), AllocError>
+fn add_changed(out: &mut Vec<u8>, changed: &Changed<'_, SizeChange>) -> Result<(), AllocError>
     ensures { OnOk result (out.new.items ≡ out.old.items ++ resizing.one changed.now) }
 {
     out.extend_from_slice(changed.gap())?;
     match changed.change() {
-        Change::Kept => out.extend_from_slice(changed.token()),
-        Change::Number(number) => add_number(out, number),
-        Change::Blanked => add_blanks(out, changed.token()),
+        SizeChange::Kept => out.extend_from_slice(changed.token()),
+        SizeChange::Number(number) => add_number(out, number),
+        SizeChange::Blanked => add_blanks(out, changed.token()),
     }
 }
 
 /// What is written of all.
-pub fn written(alloc: Global, all: &[Changed<'_>]) -> Result<Vec<u8>, AllocError>
+pub fn written(alloc: Global, all: &[Changed<'_, SizeChange>]) -> Result<Vec<u8>, AllocError>
     ensures { IfOk result (λ v. v.items ≡ resizing.written all.now) }
 {
     let mut out = Vec::new(alloc);

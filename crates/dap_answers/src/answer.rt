@@ -5,10 +5,10 @@ ghost use Rattle.dap_answers.specs.Sessions.{GoesOn};
 ghost use Rattle.view_walk.specs.Walks.{SameModel};
 
 use crate::back::{restart, run_back, step_back};
-use crate::commands::{Command, command_named};
+use crate::commands::{DebugRequest, command_named};
 use crate::console::{answer_line, tell_worth};
 use crate::data::set_watched;
-use crate::debugging::Session;
+use crate::debugging::ClientSession;
 use crate::fault::info_of;
 use crate::run::run_on;
 use crate::set_breaks::set_breaks;
@@ -17,7 +17,7 @@ use crate::step::{choose, step};
 use crate::stop::stop_here;
 use dap_messages::fields::{command_of, number_at, text_at};
 use dap_messages::moves::choice_of;
-use dap_messages::processes::{Source, process_of};
+use dap_messages::processes::{ModelSource, process_of};
 use serde_json::{Value, json};
 use std::alloc::{AllocError, Global};
 use view_session::seen::picture_of;
@@ -31,9 +31,9 @@ fn nothing(alloc: Global) -> Result<Value, AllocError> {
 // Answers a request that shows something.
 fn show(
     walk: &Walk<'_, '_>,
-    session: &mut Session,
-    source: Source<'_>,
-    command: Command,
+    session: &mut ClientSession,
+    source: ModelSource<'_>,
+    command: DebugRequest,
     request: &Value,
 ) -> Result<(), AllocError>
     ensures goes_on { GoesOn session.old session.new }
@@ -50,9 +50,9 @@ fn show(
 // Answers a request that sets something.
 fn set(
     walk: &Walk<'_, '_>,
-    session: &mut Session,
-    source: Source<'_>,
-    command: Command,
+    session: &mut ClientSession,
+    source: ModelSource<'_>,
+    command: DebugRequest,
     request: &Value,
 ) -> Result<(), AllocError>
     ensures goes_on { GoesOn session.old session.new }
@@ -60,12 +60,12 @@ fn set(
 {
     let alloc = session.allocator();
     let body = match command {
-        Command::SetBreakpoints => set_breaks(walk, session, source, request)?,
-        Command::SetDataBreakpoints => {
+        DebugRequest::SetBreakpoints => set_breaks(walk, session, source, request)?,
+        DebugRequest::SetDataBreakpoints => {
             let picture = picture_of(walk.world());
             set_watched(alloc, &picture, request, &mut session.watched)?
         }
-        Command::ExceptionInfo => info_of(session)?,
+        DebugRequest::ExceptionInfo => info_of(session)?,
         _ => nothing(alloc)?,
     };
     session.out.reply(request, body)
@@ -74,8 +74,8 @@ fn set(
 // Answers an expression, or a line of the console.
 fn evaluate(
     walk: &mut Walk<'_, '_>,
-    session: &mut Session,
-    source: Source<'_>,
+    session: &mut ClientSession,
+    source: ModelSource<'_>,
     request: &Value,
 ) -> Result<(), AllocError>
     ensures model { SameModel walk.old walk.new }
@@ -93,7 +93,7 @@ fn evaluate(
 // Takes the move that a target names, unless it is of another stop.
 fn step_into(
     walk: &mut Walk<'_, '_>,
-    session: &mut Session,
+    session: &mut ClientSession,
     request: &Value,
     target: usize,
 ) -> Result<(), AllocError>
@@ -116,7 +116,7 @@ fn step_into(
 }
 
 // Stops where a session begins; at the end of a trail that comes to a fault before that step.
-fn begin(walk: &mut Walk<'_, '_>, session: &mut Session) -> Result<(), AllocError>
+fn begin(walk: &mut Walk<'_, '_>, session: &mut ClientSession) -> Result<(), AllocError>
     ensures model { SameModel walk.old walk.new }
     ensures goes_on { GoesOn session.old session.new }
 {
@@ -130,19 +130,19 @@ fn begin(walk: &mut Walk<'_, '_>, session: &mut Session) -> Result<(), AllocErro
 // Does what a request says that leads somewhere, for a process.
 fn lead(
     walk: &mut Walk<'_, '_>,
-    session: &mut Session,
-    command: Command,
+    session: &mut ClientSession,
+    command: DebugRequest,
     process: usize,
 ) -> Result<(), AllocError>
     ensures model { SameModel walk.old walk.new }
     ensures goes_on { GoesOn session.old session.new }
 {
     match command {
-        Command::ConfigurationDone => begin(walk, session),
-        Command::Continue => run_on(walk, session),
-        Command::StepBack => step_back(walk, session, process),
-        Command::ReverseContinue => run_back(walk, session),
-        Command::Restart => restart(walk, session),
+        DebugRequest::ConfigurationDone => begin(walk, session),
+        DebugRequest::Continue => run_on(walk, session),
+        DebugRequest::StepBack => step_back(walk, session, process),
+        DebugRequest::ReverseContinue => run_back(walk, session),
+        DebugRequest::Restart => restart(walk, session),
         _ => step(walk, session, process),
     }
 }
@@ -150,21 +150,24 @@ fn lead(
 // Answers a request that leads somewhere.
 fn go(
     walk: &mut Walk<'_, '_>,
-    session: &mut Session,
-    command: Command,
+    session: &mut ClientSession,
+    command: DebugRequest,
     request: &Value,
 ) -> Result<(), AllocError>
     ensures model { SameModel walk.old walk.new }
     ensures goes_on { GoesOn session.old session.new }
     ensures replied { OnOk result (session.old.out < session.new.out) }
 {
-    if command == Command::StepIn {
+    if command == DebugRequest::StepIn {
         if let Some(target) = number_at(request, "/arguments/targetId") {
             return step_into(walk, session, request, target);
         }
     }
     let process = process_of(number_at(request, "/arguments/threadId"));
-    let wants_process = matches!(command, Command::Next | Command::StepIn | Command::StepOut);
+    let wants_process = matches!(
+        command,
+        DebugRequest::Next | DebugRequest::StepIn | DebugRequest::StepOut
+    );
     let is_there = match process {
         Some(process) => process < walk.world().process_count(),
         None => false,
@@ -174,7 +177,7 @@ fn go(
     }
     let alloc = session.allocator();
     let body = match command {
-        Command::Continue => json!(in alloc; {"allThreadsContinued": true})?,
+        DebugRequest::Continue => json!(in alloc; {"allThreadsContinued": true})?,
         _ => nothing(alloc)?,
     };
     session.out.reply(request, body)?;
@@ -182,7 +185,7 @@ fn go(
 }
 
 // Ends the run, but not the session with the client.
-fn terminate(session: &mut Session, request: &Value) -> Result<(), AllocError>
+fn terminate(session: &mut ClientSession, request: &Value) -> Result<(), AllocError>
     ensures goes_on { GoesOn session.old session.new }
     ensures replied { OnOk result (session.old.out < session.new.out) }
 {
@@ -194,8 +197,8 @@ fn terminate(session: &mut Session, request: &Value) -> Result<(), AllocError>
 /// Answers a request: what is to be sent begins with its response.
 pub fn answer(
     walk: &mut Walk<'_, '_>,
-    session: &mut Session,
-    source: Source<'_>,
+    session: &mut ClientSession,
+    source: ModelSource<'_>,
     request: &Value,
 ) -> Result<(), AllocError>
     ensures model { SameModel walk.old walk.new }
@@ -206,19 +209,19 @@ pub fn answer(
         return session.out.refuse(request, "no such request");
     };
     match command {
-        Command::Threads
-        | Command::StackTrace
-        | Command::Scopes
-        | Command::Variables
-        | Command::StepInTargets
-        | Command::DataBreakpointInfo => show(walk, session, source, command, request),
-        Command::SetBreakpoints
-        | Command::SetDataBreakpoints
-        | Command::SetExceptionBreakpoints
-        | Command::ExceptionInfo
-        | Command::Pause => set(walk, session, source, command, request),
-        Command::Evaluate => evaluate(walk, session, source, request),
-        Command::Terminate => terminate(session, request),
+        DebugRequest::Threads
+        | DebugRequest::StackTrace
+        | DebugRequest::Scopes
+        | DebugRequest::Variables
+        | DebugRequest::StepInTargets
+        | DebugRequest::DataBreakpointInfo => show(walk, session, source, command, request),
+        DebugRequest::SetBreakpoints
+        | DebugRequest::SetDataBreakpoints
+        | DebugRequest::SetExceptionBreakpoints
+        | DebugRequest::ExceptionInfo
+        | DebugRequest::Pause => set(walk, session, source, command, request),
+        DebugRequest::Evaluate => evaluate(walk, session, source, request),
+        DebugRequest::Terminate => terminate(session, request),
         _ => go(walk, session, command, request),
     }
 }

@@ -5,8 +5,8 @@ ghost use Rattle.view_walk.specs.Walks.{SameModel};
 
 use crate::breaks::hit;
 use crate::data::is_changed;
-use crate::debugging::Session;
-use crate::stop::{Stop, stop_here, tell_stop};
+use crate::debugging::ClientSession;
+use crate::stop::{SessionStop, stop_here, tell_stop};
 use dap_messages::processes::lines_of;
 use std::alloc::AllocError;
 use view_session::seen::picture_of;
@@ -30,10 +30,10 @@ struct Look {
 }
 
 // Stops at the first state.
-fn stop_at_first(walk: &Walk<'_, '_>, session: &mut Session) -> Result<(), AllocError>
+fn stop_at_first(walk: &Walk<'_, '_>, session: &mut ClientSession) -> Result<(), AllocError>
     ensures goes_on { GoesOn session.old session.new }
 {
-    let why = Stop {
+    let why = SessionStop {
         reason: "entry",
         process: 0,
         words: "the first state",
@@ -42,7 +42,7 @@ fn stop_at_first(walk: &Walk<'_, '_>, session: &mut Session) -> Result<(), Alloc
 }
 
 /// Goes to the first state again.
-pub fn restart(walk: &mut Walk<'_, '_>, session: &mut Session) -> Result<(), AllocError>
+pub fn restart(walk: &mut Walk<'_, '_>, session: &mut ClientSession) -> Result<(), AllocError>
     ensures model { SameModel walk.old walk.new }
     ensures goes_on { GoesOn session.old session.new }
 {
@@ -53,7 +53,7 @@ pub fn restart(walk: &mut Walk<'_, '_>, session: &mut Session) -> Result<(), All
 /// Goes back by a step.
 pub fn step_back(
     walk: &mut Walk<'_, '_>,
-    session: &mut Session,
+    session: &mut ClientSession,
     process: usize,
 ) -> Result<(), AllocError>
     ensures model { SameModel walk.old walk.new }
@@ -69,7 +69,7 @@ pub fn step_back(
 // Whether a run stops in the state where a walk stands.
 fn met_at(
     walk: &Walk<'_, '_>,
-    session: &mut Session,
+    session: &mut ClientSession,
     look: &mut Look,
 ) -> Result<Option<Met>, AllocError>
     ensures goes_on { GoesOn session.old session.new }
@@ -101,7 +101,7 @@ fn met_at(
 // The last state before a step in which a run stops, in one pass from the first on.
 fn last_met(
     walk: &mut Walk<'_, '_>,
-    session: &mut Session,
+    session: &mut ClientSession,
     end: usize,
 ) -> Result<Option<Met>, AllocError>
     ensures model { SameModel walk.old walk.new }
@@ -124,7 +124,7 @@ fn last_met(
 }
 
 /// Goes back to the last state in which a run stops, or to the first.
-pub fn run_back(walk: &mut Walk<'_, '_>, session: &mut Session) -> Result<(), AllocError>
+pub fn run_back(walk: &mut Walk<'_, '_>, session: &mut ClientSession) -> Result<(), AllocError>
     ensures model { SameModel walk.old walk.new }
     ensures goes_on { GoesOn session.old session.new }
 {

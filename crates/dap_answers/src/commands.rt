@@ -2,7 +2,7 @@
 
 /// A request that is answered.
 #[derive(Clone, Copy, Debug, PartialEq, Eq)]
-pub enum Command {
+pub enum DebugRequest {
     Threads,
     StackTrace,
     Scopes,
@@ -26,37 +26,40 @@ pub enum Command {
     Terminate,
 }
 
-const SHOWN: [(Command, &str); 7] = [
-    (Command::Threads, "threads"),
-    (Command::StackTrace, "stackTrace"),
-    (Command::Scopes, "scopes"),
-    (Command::Variables, "variables"),
-    (Command::StepInTargets, "stepInTargets"),
-    (Command::ExceptionInfo, "exceptionInfo"),
-    (Command::DataBreakpointInfo, "dataBreakpointInfo"),
+const SHOWN: [(DebugRequest, &str); 7] = [
+    (DebugRequest::Threads, "threads"),
+    (DebugRequest::StackTrace, "stackTrace"),
+    (DebugRequest::Scopes, "scopes"),
+    (DebugRequest::Variables, "variables"),
+    (DebugRequest::StepInTargets, "stepInTargets"),
+    (DebugRequest::ExceptionInfo, "exceptionInfo"),
+    (DebugRequest::DataBreakpointInfo, "dataBreakpointInfo"),
 ];
 
-const SET: [(Command, &str); 6] = [
-    (Command::SetBreakpoints, "setBreakpoints"),
-    (Command::SetDataBreakpoints, "setDataBreakpoints"),
-    (Command::SetExceptionBreakpoints, "setExceptionBreakpoints"),
-    (Command::Pause, "pause"),
-    (Command::Terminate, "terminate"),
-    (Command::Evaluate, "evaluate"),
+const SET: [(DebugRequest, &str); 6] = [
+    (DebugRequest::SetBreakpoints, "setBreakpoints"),
+    (DebugRequest::SetDataBreakpoints, "setDataBreakpoints"),
+    (
+        DebugRequest::SetExceptionBreakpoints,
+        "setExceptionBreakpoints",
+    ),
+    (DebugRequest::Pause, "pause"),
+    (DebugRequest::Terminate, "terminate"),
+    (DebugRequest::Evaluate, "evaluate"),
 ];
 
-const MOVED: [(Command, &str); 8] = [
-    (Command::ConfigurationDone, "configurationDone"),
-    (Command::Next, "next"),
-    (Command::StepIn, "stepIn"),
-    (Command::StepOut, "stepOut"),
-    (Command::Continue, "continue"),
-    (Command::StepBack, "stepBack"),
-    (Command::ReverseContinue, "reverseContinue"),
-    (Command::Restart, "restart"),
+const MOVED: [(DebugRequest, &str); 8] = [
+    (DebugRequest::ConfigurationDone, "configurationDone"),
+    (DebugRequest::Next, "next"),
+    (DebugRequest::StepIn, "stepIn"),
+    (DebugRequest::StepOut, "stepOut"),
+    (DebugRequest::Continue, "continue"),
+    (DebugRequest::StepBack, "stepBack"),
+    (DebugRequest::ReverseContinue, "reverseContinue"),
+    (DebugRequest::Restart, "restart"),
 ];
 
-fn in_table(table: &[(Command, &'static str)], name: &str) -> Option<Command> {
+fn in_table(table: &[(DebugRequest, &'static str)], name: &str) -> Option<DebugRequest> {
     for (command, own) in table {
         if *own == name {
             return Some(*command);
@@ -66,7 +69,7 @@ fn in_table(table: &[(Command, &'static str)], name: &str) -> Option<Command> {
 }
 
 /// The request with this name.
-pub fn command_named(name: &str) -> Option<Command> {
+pub fn command_named(name: &str) -> Option<DebugRequest> {
     match in_table(&SHOWN, name) {
         Some(command) => Some(command),
         None => match in_table(&SET, name) {

@@ -4,12 +4,12 @@ ghost use Rattle.std.specs.Prelude.{◌<◌, OnOk};
 ghost use Rattle.dap_answers.specs.Sessions.{GoesOn};
 ghost use Rattle.view_walk.specs.Walks.{SameModel};
 
-use crate::debugging::Session;
+use crate::debugging::ClientSession;
 use crate::evaluate::{Worth, worth_of};
 use crate::step::choose;
 use crate::stop::stop_here;
 use dap_messages::moves::move_words;
-use dap_messages::processes::Source;
+use dap_messages::processes::ModelSource;
 use dap_messages::words::words_of;
 use serde_json::{Value, json};
 use std::alloc::AllocError;
@@ -21,7 +21,7 @@ use view_walk::leg::Leg;
 use view_walk::walk::Walk;
 
 // Answers a request with words.
-fn reply_words(session: &mut Session, request: &Value, words: &str) -> Result<(), AllocError>
+fn reply_words(session: &mut ClientSession, request: &Value, words: &str) -> Result<(), AllocError>
     ensures goes_on { GoesOn session.old session.new }
     ensures replied { OnOk result (session.old.out < session.new.out) }
 {
@@ -32,7 +32,7 @@ fn reply_words(session: &mut Session, request: &Value, words: &str) -> Result<()
 /// Answers a request with what a text is worth where a process reads it.
 pub fn tell_worth(
     walk: &Walk<'_, '_>,
-    session: &mut Session,
+    session: &mut ClientSession,
     request: &Value,
     process: Option<usize>,
     text: &str,
@@ -50,7 +50,7 @@ pub fn tell_worth(
 // Takes the move with this number, if there is one.
 fn take_number(
     walk: &mut Walk<'_, '_>,
-    session: &mut Session,
+    session: &mut ClientSession,
     request: &Value,
     choice: usize,
 ) -> Result<(), AllocError>
@@ -71,8 +71,8 @@ fn take_number(
 // Does what a line of a session says. Whether the session goes on.
 fn obey(
     walk: &mut Walk<'_, '_>,
-    session: &mut Session,
-    source: Source<'_>,
+    session: &mut ClientSession,
+    source: ModelSource<'_>,
     line: &str,
 ) -> Result<bool, AllocError>
     ensures model { SameModel walk.old walk.new }
@@ -103,7 +103,7 @@ fn obey(
 }
 
 // The choices of a walk.
-fn legs_of(walk: &Walk<'_, '_>, session: &Session) -> Result<Vec<Leg>, AllocError> {
+fn legs_of(walk: &Walk<'_, '_>, session: &ClientSession) -> Result<Vec<Leg>, AllocError> {
     let mut legs = Vec::new(session.allocator());
     legs.extend_from_slice(walk.legs())?;
     Ok(legs)
@@ -112,8 +112,8 @@ fn legs_of(walk: &Walk<'_, '_>, session: &Session) -> Result<Vec<Leg>, AllocErro
 // Answers a line of a session, and stops where it led somewhere.
 fn say(
     walk: &mut Walk<'_, '_>,
-    session: &mut Session,
-    source: Source<'_>,
+    session: &mut ClientSession,
+    source: ModelSource<'_>,
     request: &Value,
     line: &str,
 ) -> Result<(), AllocError>
@@ -148,8 +148,8 @@ fn first_of(line: &str) -> &str {
 /// Answers a line of the console.
 pub fn answer_line(
     walk: &mut Walk<'_, '_>,
-    session: &mut Session,
-    source: Source<'_>,
+    session: &mut ClientSession,
+    source: ModelSource<'_>,
     request: &Value,
     process: Option<usize>,
     line: &str,

@@ -4,7 +4,7 @@ ghost use Rattle.view_text.specs.Written.{Stays};
 
 use dap_messages::fields::{items_at, number_at, text_at};
 use dap_messages::processes::process_of;
-use dap_messages::references::{Shown, shown_by};
+use dap_messages::references::{Listed, shown_by};
 use dap_messages::words::words_of;
 use pml_sim::world::World;
 use serde_json::{Value, json};
@@ -47,8 +47,8 @@ fn is_in(
 fn frame_of(request: &Value) -> usize {
     match number_at(request, "/arguments/variablesReference") {
         Some(reference) => match shown_by(reference) {
-            Shown::Locals(process) => process.saturating_add(1),
-            Shown::Cells(frame, _) => frame,
+            Listed::Locals(process) => process.saturating_add(1),
+            Listed::Cells(frame, _) => frame,
             _ => 0,
         },
         None => match process_of(number_at(request, "/arguments/frameId")) {

@@ -20,7 +20,7 @@ pub struct Exception {
 
 /// A session with a client: what is still to be sent, where runs stop, and what the words of a session keep.
 #[derive(Drop)]
-pub struct Session {
+pub struct ClientSession {
     pub out: Outbox,
     pub breaks: Vec<Break>,
     /// The paths of the variables at whose changes runs stop.
@@ -38,14 +38,14 @@ pub struct Session {
     pub faulting: Option<usize>,
 }
 
-impl Session {
+impl ClientSession {
     /// One in which nothing was sent.
-    pub fn new(out: Outbox, choosing: Choosing, limit: usize) -> Session
+    pub fn new(out: Outbox, choosing: Choosing, limit: usize) -> ClientSession
         ensures limit { result.limit ≡ limit }
         ensures sent { result.out ≡ out }
     {
         let alloc = out.allocator();
-        Session {
+        ClientSession {
             out,
             breaks: Vec::new(alloc),
             watched: Vec::new(alloc),

@@ -2,7 +2,7 @@
 
 use dap_messages::cells::{count_words, messages_of, value_of};
 use dap_messages::channels::add_contents;
-use dap_messages::references::{Shown, reference_of};
+use dap_messages::references::{Listed, reference_of};
 use dap_messages::words::words_of;
 use promela_process::place::Place;
 use serde_json::{Value, json};
@@ -11,7 +11,7 @@ use view_cells::cells::{
     add_value, cell_count, form_at, is_chan, number_at, place_of, slot_at, variable_count,
 };
 use view_cells::picture::Picture;
-use view_condition::condition::Condition;
+use view_condition::condition::StateCondition;
 use view_session::watch::add_fault;
 use view_session::written::cell_named;
 use view_text::writer::Writer;
@@ -94,7 +94,7 @@ fn of_variable(
     number: usize,
 ) -> Result<Worth, AllocError> {
     let words = count_words(alloc, cell_count(picture, frame, number))?;
-    let reference = reference_of(Shown::Cells(frame, number));
+    let reference = reference_of(Listed::Cells(frame, number));
     body_of(alloc, words.as_str(), reference)
 }
 
@@ -117,7 +117,7 @@ fn several_named(
 fn of_condition(
     alloc: Global,
     picture: &Picture<'_, '_, '_>,
-    condition: &Condition,
+    condition: &StateCondition,
 ) -> Result<Worth, AllocError> {
     let mut out = Writer::new(alloc);
     match (condition.worth(picture), condition.form()) {

@@ -4,8 +4,8 @@ ghost use Rattle.dap_answers.specs.Sessions.{GoesOn};
 ghost use Rattle.view_text.specs.Written.{Stays};
 ghost use Rattle.view_walk.specs.Walks.{SameModel};
 
-use crate::debugging::{Exception, Session};
-use crate::stop::{Stop, tell_stop};
+use crate::debugging::{ClientSession, Exception};
+use crate::stop::{SessionStop, tell_stop};
 use dap_messages::words::words_of;
 use diagnostics::Fault;
 use promela_run::moves::Move;
@@ -69,7 +69,7 @@ fn fault_details(
 // Tells of an exception.
 fn tell(
     walk: &Walk<'_, '_>,
-    session: &mut Session,
+    session: &mut ClientSession,
     process: usize,
     exception: Exception,
 ) -> Result<(), AllocError>
@@ -78,7 +78,7 @@ fn tell(
     session.out.output("stderr", exception.words.as_str())?;
     session.out.output("stderr", "\n")?;
     session.out.output("stderr", exception.details.as_str())?;
-    let why = Stop {
+    let why = SessionStop {
         reason: "exception",
         process,
         words: exception.words.as_str(),
@@ -91,7 +91,7 @@ fn tell(
 /// Stops before a step that comes to a fault.
 pub fn stop_at_fault(
     walk: &Walk<'_, '_>,
-    session: &mut Session,
+    session: &mut ClientSession,
     m: &Move,
     fault: Fault,
 ) -> Result<(), AllocError>
@@ -131,12 +131,12 @@ fn first_stuck(picture: &Picture<'_, '_, '_>) -> usize {
 }
 
 /// Stops where no move is left.
-pub fn stop_at_end(walk: &mut Walk<'_, '_>, session: &mut Session) -> Result<(), AllocError>
+pub fn stop_at_end(walk: &mut Walk<'_, '_>, session: &mut ClientSession) -> Result<(), AllocError>
     ensures model { SameModel walk.old walk.new }
     ensures goes_on { GoesOn session.old session.new }
 {
     if ending_of(&picture_of(walk.world())) == "valid" {
-        let why = Stop {
+        let why = SessionStop {
             reason: "end",
             process: 0,
             words: "end: valid",
@@ -154,7 +154,7 @@ pub fn stop_at_end(walk: &mut Walk<'_, '_>, session: &mut Session) -> Result<(),
 }
 
 /// What is told of the last exception.
-pub fn info_of(session: &Session) -> Result<Value, AllocError> {
+pub fn info_of(session: &ClientSession) -> Result<Value, AllocError> {
     let alloc = session.allocator();
     match &session.exception {
         Some(exception) => {

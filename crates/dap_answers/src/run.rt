@@ -5,10 +5,10 @@ ghost use Rattle.view_walk.specs.Walks.{SameModel};
 
 use crate::breaks::hit;
 use crate::data::is_changed;
-use crate::debugging::Session;
+use crate::debugging::ClientSession;
 use crate::fault::{stop_at_end, stop_at_fault};
 use crate::step::stop_at_choice;
-use crate::stop::{Stop, stop_here, tell_stop};
+use crate::stop::{SessionStop, stop_here, tell_stop};
 use dap_messages::processes::lines_of;
 use dap_messages::words::text_of;
 use diagnostics::Fault;
@@ -19,9 +19,9 @@ use view_session::steps::move_at;
 use view_text::writer::Writer;
 use view_waits::waits::starter_of;
 use view_walk::walk::{Walk, Went};
-use walk_answers::choosing::Next;
+use walk_answers::choosing::FollowingMove;
 use walk_answers::going::take;
-use walk_answers::halt::Halt;
+use walk_answers::halt::RunHalt;
 
 /// So many steps are taken at most without a stop.
 const MOST_STEPS: usize = 100_000;
@@ -49,7 +49,7 @@ enum Ended {
 // Whether a run stops where a step led it.
 fn stops_here(
     walk: &Walk<'_, '_>,
-    session: &mut Session,
+    session: &mut ClientSession,
     run: &mut Run,
     process: usize,
 ) -> Result<Option<Ended>, AllocError>
@@ -77,7 +77,7 @@ fn stops_here(
 // Takes a move. Why the run stops there, if it does.
 fn take_on(
     walk: &mut Walk<'_, '_>,
-    session: &mut Session,
+    session: &mut ClientSession,
     run: &mut Run,
     choice: usize,
     m: Move,
@@ -95,7 +95,7 @@ fn take_on(
 // Takes the next step of a run. Why it stops there, if it does.
 fn go_on(
     walk: &mut Walk<'_, '_>,
-    session: &mut Session,
+    session: &mut ClientSession,
     run: &mut Run,
 ) -> Result<Option<Ended>, AllocError>
     ensures model { SameModel walk.old walk.new }
@@ -104,10 +104,10 @@ fn go_on(
     let found = walk.moves()?;
     let moves = found.as_slice();
     match session.choosing.next(moves) {
-        Next::Stop(Halt::End) => Ok(Some(Ended::End)),
-        Next::Stop(_) => Ok(Some(Ended::Choice)),
-        Next::Take(_) if walk.at() >= session.limit => Ok(Some(Ended::Limit)),
-        Next::Take(choice) => match move_at(moves, choice) {
+        FollowingMove::Stop(RunHalt::End) => Ok(Some(Ended::End)),
+        FollowingMove::Stop(_) => Ok(Some(Ended::Choice)),
+        FollowingMove::Take(_) if walk.at() >= session.limit => Ok(Some(Ended::Limit)),
+        FollowingMove::Take(choice) => match move_at(moves, choice) {
             Some(m) => take_on(walk, session, run, choice, m),
             None => Ok(Some(Ended::Choice)),
         },
@@ -115,7 +115,11 @@ fn go_on(
 }
 
 // Goes on until the run stops, and why it does.
-fn go(walk: &mut Walk<'_, '_>, session: &mut Session, run: &mut Run) -> Result<Ended, AllocError>
+fn go(
+    walk: &mut Walk<'_, '_>,
+    session: &mut ClientSession,
+    run: &mut Run,
+) -> Result<Ended, AllocError>
     ensures model { SameModel walk.old walk.new }
     ensures goes_on { GoesOn session.old session.new }
 {
@@ -127,10 +131,14 @@ fn go(walk: &mut Walk<'_, '_>, session: &mut Session, run: &mut Run) -> Result<E
     Ok(Ended::Steps)
 }
 
-fn stop_counted(walk: &Walk<'_, '_>, session: &mut Session, words: &str) -> Result<(), AllocError>
+fn stop_counted(
+    walk: &Walk<'_, '_>,
+    session: &mut ClientSession,
+    words: &str,
+) -> Result<(), AllocError>
     ensures goes_on { GoesOn session.old session.new }
 {
-    let why = Stop {
+    let why = SessionStop {
         reason: "pause",
         process: 0,
         words,
@@ -139,7 +147,7 @@ fn stop_counted(walk: &Walk<'_, '_>, session: &mut Session, words: &str) -> Resu
 }
 
 // Stops at one of several moves.
-fn stop_choosing(walk: &Walk<'_, '_>, session: &mut Session) -> Result<(), AllocError>
+fn stop_choosing(walk: &Walk<'_, '_>, session: &mut ClientSession) -> Result<(), AllocError>
     ensures goes_on { GoesOn session.old session.new }
 {
     let found = walk.moves()?;
@@ -152,7 +160,11 @@ fn stop_choosing(walk: &Walk<'_, '_>, session: &mut Session) -> Result<(), Alloc
 }
 
 // Tells why a run stopped.
-fn tell(walk: &mut Walk<'_, '_>, session: &mut Session, ended: Ended) -> Result<(), AllocError>
+fn tell(
+    walk: &mut Walk<'_, '_>,
+    session: &mut ClientSession,
+    ended: Ended,
+) -> Result<(), AllocError>
     ensures model { SameModel walk.old walk.new }
     ensures goes_on { GoesOn session.old session.new }
 {
@@ -168,7 +180,7 @@ fn tell(walk: &mut Walk<'_, '_>, session: &mut Session, ended: Ended) -> Result<
 }
 
 /// Goes on until something stops it: a break, a change, one of several moves, a fault or the end. What is printed is told once, behind all steps.
-pub fn run_on(walk: &mut Walk<'_, '_>, session: &mut Session) -> Result<(), AllocError>
+pub fn run_on(walk: &mut Walk<'_, '_>, session: &mut ClientSession) -> Result<(), AllocError>
     ensures model { SameModel walk.old walk.new }
     ensures goes_on { GoesOn session.old session.new }
 {

@@ -3,9 +3,9 @@
 ghost use Rattle.dap_answers.specs.Sessions.{GoesOn};
 
 use crate::breaks::Break;
-use crate::debugging::Session;
+use crate::debugging::ClientSession;
 use dap_messages::fields::{items_at, number_at, text_at};
-use dap_messages::processes::Source;
+use dap_messages::processes::ModelSource;
 use dap_messages::words::words_of;
 use serde_json::{Value, json};
 use std::alloc::{AllocError, Global};
@@ -145,8 +145,8 @@ fn keep_none(alloc: Global, request: &Value) -> Result<Value, AllocError> {
 /// Keeps the breaks that a client asks for in place of those that it asked for before.
 pub fn set_breaks(
     walk: &Walk<'_, '_>,
-    session: &mut Session,
-    source: Source<'_>,
+    session: &mut ClientSession,
+    source: ModelSource<'_>,
     request: &Value,
 ) -> Result<Value, AllocError>
     ensures goes_on { GoesOn session.old session.new }

@@ -1,12 +1,12 @@
 //! What is shown of a state: each answer is of a picture of it, and of which stop it is.
 
-use crate::commands::Command;
+use crate::commands::DebugRequest;
 use crate::data::info_of as data_info_of;
-use dap_messages::cells::Page;
+use dap_messages::cells::ItemRange;
 use dap_messages::fields::{number_at, text_at};
 use dap_messages::moves::targets_of;
-use dap_messages::processes::{Source, process_of, stack_of, threads_of};
-use dap_messages::references::{Shown, shown_by};
+use dap_messages::processes::{ModelSource, process_of, stack_of, threads_of};
+use dap_messages::references::{Listed, shown_by};
 use dap_messages::variables::{MOST_SHOWN, scopes_of, variables_by};
 use serde_json::{Value, json};
 use std::alloc::{AllocError, Global};
@@ -23,14 +23,14 @@ fn process_at(picture: &Picture<'_, '_, '_>, request: &Value, path: &str) -> Opt
 }
 
 // Which variables a request asks for.
-fn page_of(request: &Value) -> Page {
+fn page_of(request: &Value) -> ItemRange {
     let start = number_at(request, "/arguments/start").unwrap_or(0);
     match number_at(request, "/arguments/count") {
-        Some(count) if count > 0 => Page {
+        Some(count) if count > 0 => ItemRange {
             start,
             count: count.min(MOST_SHOWN),
         },
-        _ => Page {
+        _ => ItemRange {
             start,
             count: MOST_SHOWN,
         },
@@ -40,7 +40,7 @@ fn page_of(request: &Value) -> Page {
 // The cells of a variable have no names of their own.
 fn is_none_named(request: &Value, reference: usize) -> bool {
     let is_named = text_at(request, "/arguments/filter") == "named";
-    is_named && matches!(shown_by(reference), Shown::Cells(_, _))
+    is_named && matches!(shown_by(reference), Listed::Cells(_, _))
 }
 
 fn variables(
@@ -60,13 +60,13 @@ fn of_process(
     alloc: Global,
     picture: &Picture<'_, '_, '_>,
     process: usize,
-    source: Source<'_>,
-    command: Command,
+    source: ModelSource<'_>,
+    command: DebugRequest,
     stop: usize,
 ) -> Result<Value, AllocError> {
     match command {
-        Command::StackTrace => stack_of(alloc, picture, process, source),
-        Command::Scopes => scopes_of(alloc, process),
+        DebugRequest::StackTrace => stack_of(alloc, picture, process, source),
+        DebugRequest::Scopes => scopes_of(alloc, process),
         _ => targets_of(alloc, picture, process, stop),
     }
 }
@@ -75,16 +75,16 @@ fn of_process(
 pub fn shown(
     alloc: Global,
     picture: &Picture<'_, '_, '_>,
-    source: Source<'_>,
+    source: ModelSource<'_>,
     stop: usize,
-    command: Command,
+    command: DebugRequest,
     request: &Value,
 ) -> Result<Option<Value>, AllocError> {
     let path = match command {
-        Command::Threads => return Ok(Some(threads_of(alloc, picture)?)),
-        Command::Variables => return Ok(Some(variables(alloc, picture, request)?)),
-        Command::DataBreakpointInfo => return Ok(Some(data_info_of(alloc, picture, request)?)),
-        Command::StackTrace => "/arguments/threadId",
+        DebugRequest::Threads => return Ok(Some(threads_of(alloc, picture)?)),
+        DebugRequest::Variables => return Ok(Some(variables(alloc, picture, request)?)),
+        DebugRequest::DataBreakpointInfo => return Ok(Some(data_info_of(alloc, picture, request)?)),
+        DebugRequest::StackTrace => "/arguments/threadId",
         _ => "/arguments/frameId",
     };
     match process_at(picture, request, path) {

@@ -3,22 +3,22 @@
 ghost use Rattle.dap_answers.specs.Sessions.{GoesOn};
 ghost use Rattle.view_walk.specs.Walks.{SameModel};
 
-use crate::debugging::Session;
+use crate::debugging::ClientSession;
 use crate::fault::{stop_at_end, stop_at_fault};
-use crate::stop::{Stop, stop_here, tell_stop};
+use crate::stop::{SessionStop, stop_here, tell_stop};
 use dap_messages::moves::add_all_waits;
 use dap_messages::words::{text_of, words_of};
 use promela_run::moves::Move;
 use std::alloc::AllocError;
 use view_session::seen::picture_of;
-use view_session::steps::{Texts, add_step_line, move_at, texts_of};
+use view_session::steps::{MoveTexts, add_step_line, move_at, texts_of};
 use view_state::choices::add_choices;
 use view_text::writer::Writer;
 use view_waits::waits::starter_of;
 use view_walk::walk::{Walk, Went};
-use walk_answers::choosing::{Choosing, Next};
+use walk_answers::choosing::{Choosing, FollowingMove};
 use walk_answers::going::take;
-use walk_answers::halt::Halt;
+use walk_answers::halt::RunHalt;
 
 /// What stops a session at one of several moves, in words.
 pub const NEXT_CHOICE: &str =
@@ -27,8 +27,8 @@ pub const NEXT_CHOICE: &str =
 // Tells of the last step of a walk, which has these texts, and what it printed.
 fn tell_step(
     walk: &Walk<'_, '_>,
-    session: &mut Session,
-    texts: &Texts,
+    session: &mut ClientSession,
+    texts: &MoveTexts,
     printed: &[u8],
 ) -> Result<(), AllocError>
     ensures goes_on { GoesOn session.old session.new }
@@ -44,7 +44,7 @@ fn tell_step(
 // Stops behind a step of a process; where no move is left, at the end.
 fn stop_behind(
     walk: &mut Walk<'_, '_>,
-    session: &mut Session,
+    session: &mut ClientSession,
     process: usize,
 ) -> Result<(), AllocError>
     ensures model { SameModel walk.old walk.new }
@@ -59,7 +59,7 @@ fn stop_behind(
 // Takes a move, which has this number, tells of it and stops.
 fn take_move(
     walk: &mut Walk<'_, '_>,
-    session: &mut Session,
+    session: &mut ClientSession,
     choice: usize,
     m: &Move,
 ) -> Result<(), AllocError>
@@ -81,10 +81,10 @@ fn take_move(
 }
 
 // Stops where a walk has as many steps as it may have.
-fn stop_at_limit(walk: &Walk<'_, '_>, session: &mut Session) -> Result<(), AllocError>
+fn stop_at_limit(walk: &Walk<'_, '_>, session: &mut ClientSession) -> Result<(), AllocError>
     ensures goes_on { GoesOn session.old session.new }
 {
-    let why = Stop {
+    let why = SessionStop {
         reason: "pause",
         process: 0,
         words: "step limit",
@@ -95,7 +95,7 @@ fn stop_at_limit(walk: &Walk<'_, '_>, session: &mut Session) -> Result<(), Alloc
 /// Takes the move with this number of those that there are, tells of it and stops.
 pub fn choose(
     walk: &mut Walk<'_, '_>,
-    session: &mut Session,
+    session: &mut ClientSession,
     moves: &[Move],
     choice: usize,
 ) -> Result<(), AllocError>
@@ -114,7 +114,7 @@ pub fn choose(
 /// Stops where one of several moves is to be chosen, which are listed.
 pub fn stop_at_choice(
     walk: &Walk<'_, '_>,
-    session: &mut Session,
+    session: &mut ClientSession,
     moves: &[Move],
     process: usize,
 ) -> Result<(), AllocError>
@@ -123,7 +123,7 @@ pub fn stop_at_choice(
     let mut out = Writer::new(session.allocator());
     add_choices(&picture_of(walk.world()), moves, false, &mut out)?;
     session.out.output("console", words_of(&out)?.as_str())?;
-    let why = Stop {
+    let why = SessionStop {
         reason: "choice",
         process,
         words: NEXT_CHOICE,
@@ -134,7 +134,7 @@ pub fn stop_at_choice(
 // Stops where a process has no move.
 fn stop_waiting(
     walk: &Walk<'_, '_>,
-    session: &mut Session,
+    session: &mut ClientSession,
     process: usize,
 ) -> Result<(), AllocError>
     ensures goes_on { GoesOn session.old session.new }
@@ -142,7 +142,7 @@ fn stop_waiting(
     let mut out = Writer::new(session.allocator());
     add_all_waits(&picture_of(walk.world()), process, &mut out)?;
     let words = words_of(&out)?;
-    let why = Stop {
+    let why = SessionStop {
         reason: "step",
         process,
         words: words.as_str(),
@@ -153,7 +153,7 @@ fn stop_waiting(
 /// Takes the only move of a process; where it has several or none, that is told.
 pub fn step(
     walk: &mut Walk<'_, '_>,
-    session: &mut Session,
+    session: &mut ClientSession,
     process: usize,
 ) -> Result<(), AllocError>
     ensures model { SameModel walk.old walk.new }
@@ -163,9 +163,9 @@ pub fn step(
     let moves = found.as_slice();
     let mut choosing = Choosing::Process(process);
     match choosing.next(moves) {
-        Next::Take(choice) => choose(walk, session, moves, choice),
-        Next::Stop(Halt::End) => stop_at_end(walk, session),
-        Next::Stop(Halt::Blocked(_)) => stop_waiting(walk, session, process),
-        Next::Stop(_) => stop_at_choice(walk, session, moves, process),
+        FollowingMove::Take(choice) => choose(walk, session, moves, choice),
+        FollowingMove::Stop(RunHalt::End) => stop_at_end(walk, session),
+        FollowingMove::Stop(RunHalt::Blocked(_)) => stop_waiting(walk, session, process),
+        FollowingMove::Stop(_) => stop_at_choice(walk, session, moves, process),
     }
 }

@@ -2,7 +2,7 @@
 
 ghost use Rattle.dap_answers.specs.Sessions.{GoesOn};
 
-use crate::debugging::Session;
+use crate::debugging::ClientSession;
 use dap_messages::processes::thread_of;
 use dap_messages::words::words_of;
 use serde_json::json;
@@ -11,7 +11,7 @@ use view_text::writer::Writer;
 use view_walk::walk::Walk;
 
 // Tells of a thread that has begun or ended.
-fn tell_thread(session: &mut Session, process: usize, reason: &str) -> Result<(), AllocError>
+fn tell_thread(session: &mut ClientSession, process: usize, reason: &str) -> Result<(), AllocError>
     ensures goes_on { GoesOn session.old session.new }
 {
     let thread = thread_of(process);
@@ -20,7 +20,12 @@ fn tell_thread(session: &mut Session, process: usize, reason: &str) -> Result<()
 }
 
 // Tells of each of these threads that it has begun or ended.
-fn tell_each(session: &mut Session, from: usize, to: usize, reason: &str) -> Result<(), AllocError>
+fn tell_each(
+    session: &mut ClientSession,
+    from: usize,
+    to: usize,
+    reason: &str,
+) -> Result<(), AllocError>
     ensures goes_on { GoesOn session.old session.new }
 {
     for process in from..to {
@@ -30,7 +35,7 @@ fn tell_each(session: &mut Session, from: usize, to: usize, reason: &str) -> Res
 }
 
 // Tells of the threads that have begun or ended since the last stop.
-fn tell_threads(session: &mut Session, alive: usize) -> Result<(), AllocError>
+fn tell_threads(session: &mut ClientSession, alive: usize) -> Result<(), AllocError>
     ensures goes_on { GoesOn session.old session.new }
 {
     let before = session.alive;
@@ -42,7 +47,7 @@ fn tell_threads(session: &mut Session, alive: usize) -> Result<(), AllocError>
 
 /// Why a session stops, of which process, and words for it.
 #[derive(Clone, Copy)]
-pub struct Stop<'s> {
+pub struct SessionStop<'s> {
     pub reason: &'s str,
     pub process: usize,
     pub words: &'s str,
@@ -51,8 +56,8 @@ pub struct Stop<'s> {
 /// Tells that a session has stopped where a walk stands.
 pub fn tell_stop(
     walk: &Walk<'_, '_>,
-    session: &mut Session,
-    stop: Stop<'_>,
+    session: &mut ClientSession,
+    stop: SessionStop<'_>,
 ) -> Result<(), AllocError>
     ensures goes_on { GoesOn session.old session.new }
 {
@@ -73,7 +78,7 @@ pub fn tell_stop(
 }
 
 /// Where a walk stands, in words: `at 3 of 7`.
-pub fn place_words(walk: &Walk<'_, '_>, session: &Session) -> Result<String, AllocError> {
+pub fn place_words(walk: &Walk<'_, '_>, session: &ClientSession) -> Result<String, AllocError> {
     let mut out = Writer::new(session.allocator());
     out.add(b"at ");
     out.number(walk.at());
@@ -85,14 +90,14 @@ pub fn place_words(walk: &Walk<'_, '_>, session: &Session) -> Result<String, All
 /// Tells that a session has stopped where a walk stands, with that in words.
 pub fn stop_here(
     walk: &Walk<'_, '_>,
-    session: &mut Session,
+    session: &mut ClientSession,
     reason: &str,
     process: usize,
 ) -> Result<(), AllocError>
     ensures goes_on { GoesOn session.old session.new }
 {
     let words = place_words(walk, session)?;
-    let why = Stop {
+    let why = SessionStop {
         reason,
         process,
         words: words.as_str(),

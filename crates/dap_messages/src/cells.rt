@@ -1,6 +1,6 @@
 //! Variables and their cells.
 
-use crate::references::{Shown, reference_of};
+use crate::references::{Listed, reference_of};
 use crate::words::words_of;
 use promela_process::place::Place;
 use serde_json::{Value, json};
@@ -13,12 +13,12 @@ use view_text::writer::Writer;
 
 /// Which items of a list are asked for.
 #[derive(Clone, Copy, Debug, PartialEq, Eq)]
-pub struct Page {
+pub struct ItemRange {
     pub start: usize,
     pub count: usize,
 }
 
-impl Page {
+impl ItemRange {
     // Where the items end that are asked for, of so many.
     fn end(self, length: usize) -> usize {
         self.start.saturating_add(self.count).min(length)
@@ -67,7 +67,7 @@ pub fn value_of(
 pub fn messages_of(picture: &Picture<'_, '_, '_>, place: Place) -> usize {
     let number = number_at(picture, place);
     if number > 0 && is_chan(form_at(picture, place)) {
-        return reference_of(Shown::Messages(number as usize));
+        return reference_of(Listed::Messages(number as usize));
     }
     0
 }
@@ -103,7 +103,7 @@ fn several(
     }
     let name = words_of(&out)?;
     let value = count_words(alloc, count)?;
-    let reference = reference_of(Shown::Cells(frame, number));
+    let reference = reference_of(Listed::Cells(frame, number));
     json!(in alloc; {"name": name, "value": value, "variablesReference": reference, "indexedVariables": count})
 }
 
@@ -112,7 +112,7 @@ pub fn variables_of(
     alloc: Global,
     picture: &Picture<'_, '_, '_>,
     frame: usize,
-    page: Page,
+    page: ItemRange,
 ) -> Result<Value, AllocError> {
     let mut list = Vec::new(alloc);
     for number in page.start..page.end(variable_count(picture, frame)) {
@@ -138,7 +138,7 @@ pub fn cells_of(
     picture: &Picture<'_, '_, '_>,
     frame: usize,
     number: usize,
-    page: Page,
+    page: ItemRange,
 ) -> Result<Value, AllocError> {
     let mut list = Vec::new(alloc);
     for at in page.start..page.end(cell_count(picture, frame, number)) {

@@ -2,8 +2,8 @@
 
 ghost use Rattle.view_text.specs.Written.{Stays};
 
-use crate::cells::{Page, variable};
-use crate::references::{Shown, reference_of};
+use crate::cells::{ItemRange, variable};
+use crate::references::{Listed, reference_of};
 use crate::words::words_of;
 use pml_channel::channel::Channel;
 use serde_json::{Value, json};
@@ -59,7 +59,7 @@ fn channel(
     let name = words_of(&name)?;
     let value = words_of(&value)?;
     let reference = match channel_at(picture, number) {
-        Some(channel) if channel.len() > 0 => reference_of(Shown::Messages(number)),
+        Some(channel) if channel.len() > 0 => reference_of(Listed::Messages(number)),
         _ => 0,
     };
     json!(in alloc; {"name": name, "value": value, "variablesReference": reference})
@@ -69,7 +69,7 @@ fn channel(
 pub fn channels_of(
     alloc: Global,
     picture: &Picture<'_, '_, '_>,
-    page: Page,
+    page: ItemRange,
 ) -> Result<Value, AllocError> {
     let mut list = Vec::new(alloc);
     let end = page
@@ -107,7 +107,7 @@ pub fn messages_of(
     alloc: Global,
     picture: &Picture<'_, '_, '_>,
     number: usize,
-    page: Page,
+    page: ItemRange,
 ) -> Result<Value, AllocError> {
     let mut list = Vec::new(alloc);
     let Some(channel) = channel_at(picture, number) else {

@@ -4,7 +4,7 @@ ghost use Rattle.std.specs.Prelude.{◌≡◌, ◌+◌, ◌*◌, IfSome};
 ghost use Rattle.dap_messages.specs.declared.moves.TheConstants.{MOST_TARGETS};
 ghost use Rattle.view_text.specs.Written.{Stays};
 
-use crate::cells::{Page, variable};
+use crate::cells::{ItemRange, variable};
 use crate::words::words_of;
 use itoa::Buffer;
 use promela_run::moves::Move;
@@ -48,7 +48,7 @@ fn numbered(
 pub fn moves_of(
     alloc: Global,
     picture: &Picture<'_, '_, '_>,
-    page: Page,
+    page: ItemRange,
 ) -> Result<Value, AllocError> {
     let moves = moves_in(alloc, picture)?;
     let moves = moves.as_slice();

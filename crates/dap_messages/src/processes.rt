@@ -60,7 +60,7 @@ pub fn threads_of(alloc: Global, picture: &Picture<'_, '_, '_>) -> Result<Value,
 
 /// The file of the model, and its text, whose lines are shown.
 #[derive(Clone, Copy)]
-pub struct Source<'s> {
+pub struct ModelSource<'s> {
     pub path: &'s str,
     pub text: &'s [u8],
 }
@@ -95,7 +95,7 @@ pub fn stack_of(
     alloc: Global,
     picture: &Picture<'_, '_, '_>,
     process: usize,
-    source: Source<'_>,
+    source: ModelSource<'_>,
 ) -> Result<Value, AllocError> {
     let mut out = Writer::new(alloc);
     add_name(picture, process, &mut out);

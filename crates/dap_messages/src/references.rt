@@ -2,7 +2,7 @@
 
 /// What a number stands for.
 #[derive(Clone, Copy, Debug, PartialEq, Eq)]
-pub enum Shown {
+pub enum Listed {
     Globals,
     Channels,
     Moves,
@@ -35,14 +35,14 @@ const MESSAGES: usize = 100_000_000;
 const MOST_VARIABLES: usize = 100_000;
 
 /// The number that stands for something.
-pub fn reference_of(shown: Shown) -> usize {
+pub fn reference_of(shown: Listed) -> usize {
     match shown {
-        Shown::Globals => GLOBALS,
-        Shown::Channels => CHANNELS,
-        Shown::Moves => MOVES,
-        Shown::Locals(process) => LOCALS.saturating_add(process),
-        Shown::Waits(process) => WAITS.saturating_add(process),
-        Shown::Cells(frame, variable) => {
+        Listed::Globals => GLOBALS,
+        Listed::Channels => CHANNELS,
+        Listed::Moves => MOVES,
+        Listed::Locals(process) => LOCALS.saturating_add(process),
+        Listed::Waits(process) => WAITS.saturating_add(process),
+        Listed::Cells(frame, variable) => {
             if variable < MOST_VARIABLES {
                 frame
                     .saturating_add(1)
@@ -52,24 +52,24 @@ pub fn reference_of(shown: Shown) -> usize {
                 0
             }
         }
-        Shown::Messages(number) => MESSAGES.saturating_add(number),
-        Shown::Nothing => 0,
+        Listed::Messages(number) => MESSAGES.saturating_add(number),
+        Listed::Nothing => 0,
     }
 }
 
 /// What a number stands for.
-pub fn shown_by(reference: usize) -> Shown {
+pub fn shown_by(reference: usize) -> Listed {
     match reference {
-        GLOBALS => Shown::Globals,
-        CHANNELS => Shown::Channels,
-        MOVES => Shown::Moves,
-        _ if reference >= MESSAGES => Shown::Messages(reference - MESSAGES),
-        _ if reference >= VARIABLES => Shown::Cells(
+        GLOBALS => Listed::Globals,
+        CHANNELS => Listed::Channels,
+        MOVES => Listed::Moves,
+        _ if reference >= MESSAGES => Listed::Messages(reference - MESSAGES),
+        _ if reference >= VARIABLES => Listed::Cells(
             reference / MOST_VARIABLES - 1,
             reference % MOST_VARIABLES,
         ),
-        _ if reference >= WAITS => Shown::Waits(reference - WAITS),
-        _ if reference >= LOCALS => Shown::Locals(reference - LOCALS),
-        _ => Shown::Nothing,
+        _ if reference >= WAITS => Listed::Waits(reference - WAITS),
+        _ if reference >= LOCALS => Listed::Locals(reference - LOCALS),
+        _ => Listed::Nothing,
     }
 }

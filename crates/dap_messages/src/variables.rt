@@ -1,9 +1,9 @@
 //! Scopes and variables.
 
-use crate::cells::{Page, cells_of, variables_of};
+use crate::cells::{ItemRange, cells_of, variables_of};
 use crate::channels::{channels_of, messages_of};
 use crate::moves::{moves_of, waits_of};
-use crate::references::{Shown, reference_of, shown_by};
+use crate::references::{Listed, reference_of, shown_by};
 use serde_json::{Value, json};
 use std::alloc::{AllocError, Global};
 use view_cells::picture::Picture;
@@ -13,11 +13,11 @@ pub const MOST_SHOWN: usize = 4_096;
 
 /// The scopes of a process.
 pub fn scopes_of(alloc: Global, process: usize) -> Result<Value, AllocError> {
-    let locals = reference_of(Shown::Locals(process));
-    let globals = reference_of(Shown::Globals);
-    let channels = reference_of(Shown::Channels);
-    let moves = reference_of(Shown::Moves);
-    let waits = reference_of(Shown::Waits(process));
+    let locals = reference_of(Listed::Locals(process));
+    let globals = reference_of(Listed::Globals);
+    let channels = reference_of(Listed::Channels);
+    let moves = reference_of(Listed::Moves);
+    let waits = reference_of(Listed::Waits(process));
     json!(in alloc; {"scopes": [
         {"name": "Locals", "presentationHint": "locals", "variablesReference": locals, "expensive": false},
         {"name": "Globals", "variablesReference": globals, "expensive": false},
@@ -31,18 +31,18 @@ pub fn scopes_of(alloc: Global, process: usize) -> Result<Value, AllocError> {
 fn list_of(
     alloc: Global,
     picture: &Picture<'_, '_, '_>,
-    shown: Shown,
-    page: Page,
+    shown: Listed,
+    page: ItemRange,
 ) -> Result<Value, AllocError> {
     match shown {
-        Shown::Globals => variables_of(alloc, picture, 0, page),
-        Shown::Channels => channels_of(alloc, picture, page),
-        Shown::Moves => moves_of(alloc, picture, page),
-        Shown::Locals(process) => variables_of(alloc, picture, process.saturating_add(1), page),
-        Shown::Waits(process) => waits_of(alloc, picture, process),
-        Shown::Cells(frame, variable) => cells_of(alloc, picture, frame, variable, page),
-        Shown::Messages(number) => messages_of(alloc, picture, number, page),
-        Shown::Nothing => json!(in alloc; []),
+        Listed::Globals => variables_of(alloc, picture, 0, page),
+        Listed::Channels => channels_of(alloc, picture, page),
+        Listed::Moves => moves_of(alloc, picture, page),
+        Listed::Locals(process) => variables_of(alloc, picture, process.saturating_add(1), page),
+        Listed::Waits(process) => waits_of(alloc, picture, process),
+        Listed::Cells(frame, variable) => cells_of(alloc, picture, frame, variable, page),
+        Listed::Messages(number) => messages_of(alloc, picture, number, page),
+        Listed::Nothing => json!(in alloc; []),
     }
 }
 
@@ -51,7 +51,7 @@ pub fn variables_by(
     alloc: Global,
     picture: &Picture<'_, '_, '_>,
     reference: usize,
-    page: Page,
+    page: ItemRange,
 ) -> Result<Value, AllocError> {
     let list = list_of(alloc, picture, shown_by(reference), page)?;
     json!(in alloc; {"variables": list})

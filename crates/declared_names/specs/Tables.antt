@@ -8,7 +8,7 @@ use Rattle.check_names.specs.Places.{IsKept, stands}
 use Rattle.check_names.specs.Entry.{Entry, found}
 use Rattle.declared_names.specs.Sites.{Sites, sites, labels, owned}
 use Rattle.declared_names.specs.Meant.{Known}
-use Rattle.declared_names.specs.declared.meant.Known as code
+use Rattle.declared_names.specs.declared.meant.KnownNames as code
 
 abbrev pub sites_of : Places ℕ → Sites
 sites_of ps o n = stands ps.numbers ps.places o n
@@ -18,7 +18,7 @@ abbrev pub told : List Entry → Places ℕ → Known
 told es ps = record { names = found es; sites = sites_of ps }
 
 -- the same of what the code looks names up in
-abbrev pub told_in : code.Known → Known
+abbrev pub told_in : code.KnownNames → Known
 told_in k = told k.table.now k.sites.now
 
 -- the places are those where marks declare names

@@ -18,13 +18,18 @@ use std::alloc::{AllocError, Global};
 
 /// What names stand for, and where they are declared.
 #[derive(Clone, Copy)]
-pub struct Known<'s, 'a> {
+pub struct KnownNames<'s, 'a> {
     pub table: &'s Table<'a>,
     pub sites: &'s Places<'a, usize>,
 }
 
 /// Where a name is declared.
-fn meant_site(all: Known<'_, '_>, here: Known<'_, '_>, owner: usize, name: &[u8]) -> Option<usize>
+fn meant_site(
+    all: KnownNames<'_, '_>,
+    here: KnownNames<'_, '_>,
+    owner: usize,
+    name: &[u8],
+) -> Option<usize>
     ensures { result ≡ meant_site (told_in all.entry) (told_in here.entry) owner name.now }
 {
     if is_special(name) {
@@ -54,7 +59,7 @@ fn form_of(thing: Option<Thing>) -> Form
 /// Adds the fields of what has this type.
 fn add_fields(
     out: &mut Vec<Occurrence>,
-    here: Known<'_, '_>,
+    here: KnownNames<'_, '_>,
     form: Form,
     steps: &[Shape<'_>],
 ) -> Result<(), AllocError>
@@ -75,8 +80,8 @@ fn add_fields(
 /// Adds the names of a reference.
 fn add_reference(
     out: &mut Vec<Occurrence>,
-    all: Known<'_, '_>,
-    here: Known<'_, '_>,
+    all: KnownNames<'_, '_>,
+    here: KnownNames<'_, '_>,
     owner: usize,
     steps: &[Shape<'_>],
 ) -> Result<(), AllocError>
@@ -96,8 +101,8 @@ fn add_reference(
 /// Adds the names of a mark.
 fn add_mark(
     out: &mut Vec<Occurrence>,
-    all: Known<'_, '_>,
-    here: Known<'_, '_>,
+    all: KnownNames<'_, '_>,
+    here: KnownNames<'_, '_>,
     labels: &Places<'_, usize>,
     mark: &Mark<'_>,
 ) -> Result<(), AllocError>
@@ -118,7 +123,7 @@ fn add_mark(
 /// The names of marks, among all of a text.
 fn by_marks<'a>(
     alloc: Global,
-    all: Known<'_, 'a>,
+    all: KnownNames<'_, 'a>,
     labels: &Places<'a, usize>,
     marks: &[Mark<'a>],
 ) -> Result<Vec<Occurrence>, AllocError>
@@ -133,7 +138,7 @@ fn by_marks<'a>(
     for mark in marks {
         names.declare(mark.owner, &mark.what)?;
         add_site(&mut sites, mark.owner, &mark.what)?;
-        let here = Known {
+        let here = KnownNames {
             table: &names.table,
             sites: &sites,
         };
@@ -149,7 +154,7 @@ pub fn meant(alloc: Global, marks: &[Mark<'_>]) -> Result<Vec<Occurrence>, Alloc
     let names = all_names(alloc, marks)?;
     let sites = all_sites(alloc, marks)?;
     let labels = all_labels(alloc, marks)?;
-    let all = Known {
+    let all = KnownNames {
         table: &names.table,
         sites: &sites,
     };

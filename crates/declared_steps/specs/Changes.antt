@@ -7,20 +7,20 @@ use Rattle.pml_token.specs.declared.token.Kind.TheVariants as kind
 use Rattle.pml_token.specs.Word.{same_kind}
 use Rattle.prepare.specs.Written.{Written}
 use Rattle.prepare.specs.Sizes as sizes
-use Rattle.declared_steps.specs.declared.stage.Item.{Item}
-use Rattle.declared_steps.specs.declared.stage.Item.TheVariants as item
-use Rattle.declared_steps.specs.declared.stage.Stage.{Stage}
-use Rattle.declared_steps.specs.declared.changes.Change.{Change}
-use Rattle.declared_steps.specs.declared.changes.Change.TheVariants as change
-use Rattle.declared_steps.specs.Changed.{Changed}
+use Rattle.declared_steps.specs.declared.stage.PendingStep.{PendingStep}
+use Rattle.declared_steps.specs.declared.stage.PendingStep.TheVariants as item
+use Rattle.declared_steps.specs.declared.stage.DeclarationStage.{DeclarationStage}
+use Rattle.declared_steps.specs.declared.changes.StepChange.{StepChange}
+use Rattle.declared_steps.specs.declared.changes.StepChange.TheVariants as change
+use Rattle.declared_steps.specs.SteppedToken.{SteppedToken}
 use Rattle.declared_steps.specs.Stages.{ends, item_behind, is_first, behind, start}
 
-abbrev pub is_value : Item → Bool
+abbrev pub is_value : PendingStep → Bool
 is_value item.Valued = true
 is_value _ = false
 
 -- a channel gets its value, but for one that is made there; without one it is left
-abbrev pub change_of_channel : Kind → Bool → Item → Change
+abbrev pub change_of_channel : Kind → Bool → PendingStep → StepChange
 change_of_channel k is_array i = if same_kind k kind.Assign && is_value i then change.Assigned is_array else change.Kept
 
 abbrev pub is_name : List ℕ → Written → Bool
@@ -57,36 +57,36 @@ abbrev pub is_given : Bool → List ℕ → List Written → Bool
 is_given is_array name ts = is_set is_array name ts || is_counted name ts
 
 -- a declaration without a value ends with 0, unless a value follows it at once
-abbrev pub change_of_end : Bool → Kind → List ℕ → List Written → Change
+abbrev pub change_of_end : Bool → Kind → List ℕ → List Written → StepChange
 change_of_end is_array k name ts = if same_kind k kind.Semicolon && is_given is_array name ts then change.Kept else change.Ended is_array
 
 -- a variable gets its value, or 0, and so does the first element of an array
-abbrev pub change_of_variable : Bool → Kind → List ℕ → List Written → Change
+abbrev pub change_of_variable : Bool → Kind → List ℕ → List Written → StepChange
 change_of_variable is_array k name ts =
     if same_kind k kind.Assign then change.Assigned is_array
     else (if same_kind k kind.Comma then change.Cleared is_array
     else (if ends k then change_of_end is_array k name ts else change.Kept))
 
 -- what becomes of a token that stands in no brackets of the declaration
-abbrev pub change_of : Item → Kind → List ℕ → List Written → Change
+abbrev pub change_of : PendingStep → Kind → List ℕ → List Written → StepChange
 change_of item.Nothing k name ts = change.Kept
 change_of (item.Named is_array is_channel) k name ts =
     if is_channel then change_of_channel k is_array (item_behind (item.Named is_array is_channel) k ts) else change_of_variable is_array k name ts
 change_of item.Valued k name ts = if same_kind k kind.Comma then change.Parted else change.Kept
 
-abbrev pub change_at : Stage → Kind → List ℕ → List Written → Change
+abbrev pub change_at : DeclarationStage → Kind → List ℕ → List Written → StepChange
 change_at s k name ts = if s.reading.depth == 0 then change_of s.item k name ts else change.Kept
 
 abbrev pub either : Bool → List ℕ → List ℕ → List ℕ
 either b one other = if b then one else other
 
 -- what becomes of the rest of the stretches, where `last` is the token before, and `name` and `word` are the name that was declared last and its type
-abbrev pub changes_by : Stage → List ℕ → List ℕ → List ℕ → List Written → List Changed
+abbrev pub changes_by : DeclarationStage → List ℕ → List ℕ → List ℕ → List Written → List SteppedToken
 changes_by s last name word [] = []
 changes_by s last name word (t ∷ ts) =
     record { gap = t.gap; token = t.token; change = change_at s t.kind name ts; name = name; word = word }
     ∷ changes_by (behind s t.kind t.token ts) t.token (either (sizes.declares s.reading t.kind) t.token name) (either (is_first s t.kind) last word) ts
 
 -- what becomes of the tokens of a text where declarations are steps
-abbrev pub changes : List Written → List Changed
+abbrev pub changes : List Written → List SteppedToken
 changes ts = changes_by start [] [] [] ts

@@ -1,4 +1,4 @@
-pub mod Changed
+pub mod SteppedToken
 pub mod Stages
 pub mod Changes
 pub mod Writing

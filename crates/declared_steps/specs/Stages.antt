@@ -8,9 +8,9 @@ use Rattle.prepare.specs.declared.sizes.Lead.TheVariants as lead
 use Rattle.prepare.specs.Contexts.{deeper}
 use Rattle.prepare.specs.Sizes as sizes
 use Rattle.prepare.specs.Written.{Written}
-use Rattle.declared_steps.specs.declared.stage.Item.{Item}
-use Rattle.declared_steps.specs.declared.stage.Item.TheVariants as item
-use Rattle.declared_steps.specs.declared.stage.Stage.{Stage}
+use Rattle.declared_steps.specs.declared.stage.PendingStep.{PendingStep}
+use Rattle.declared_steps.specs.declared.stage.PendingStep.TheVariants as item
+use Rattle.declared_steps.specs.declared.stage.DeclarationStage.{DeclarationStage}
 
 -- a type of which a variable has one number
 abbrev pub is_type : Kind → Bool
@@ -61,31 +61,31 @@ braces_behind n kind.CloseBrace = n - 1
 braces_behind n _ = n
 
 -- what is to be written of a name of this type
-abbrev pub item_of : Kind → Item
+abbrev pub item_of : Kind → PendingStep
 item_of k = if is_type k then item.Named false false else (if same_kind k kind.Chan then item.Named false true else item.Nothing)
 
 -- behind `=`: a channel that is made there is no step
-abbrev pub item_with_value : Bool → List Written → Item
+abbrev pub item_with_value : Bool → List Written → PendingStep
 item_with_value is_channel ts = if is_channel && begins_with kind.OpenBracket ts then item.Nothing else item.Valued
 
-abbrev pub item_within : Item → Kind → List Written → Item
+abbrev pub item_within : PendingStep → Kind → List Written → PendingStep
 item_within (item.Named is_array is_channel) k ts =
     if same_kind k kind.Assign then item_with_value is_channel ts else item.Named (is_array || same_kind k kind.OpenBracket) is_channel
 item_within i k ts = i
 
 -- behind a token that stands in no brackets of the declaration
-abbrev pub item_behind : Item → Kind → List Written → Item
+abbrev pub item_behind : PendingStep → Kind → List Written → PendingStep
 item_behind i k ts = if same_kind k kind.Comma || ends k then item.Nothing else item_within i k ts
 
-abbrev pub start : Stage
+abbrev pub start : DeclarationStage
 start = record { reading = sizes.start; last = kind.End; type_word = kind.End; braces = 0; is_inline = false; is_behind = false; is_claim = false; item = item.Nothing }
 
 -- whether a token is a name that is declared behind its type
-abbrev pub is_first : Stage → Kind → Bool
+abbrev pub is_first : DeclarationStage → Kind → Bool
 is_first s k = sizes.declares s.reading k && is_led_by_type s.reading.lead
 
 -- whether a declaration is a step here: in a block, in an inline, and behind a statement; not at the beginning of another body
-abbrev pub is_step : Stage → Bool
+abbrev pub is_step : DeclarationStage → Bool
 is_step s = nat_lt 1 s.braces || (nat_lt 0 s.braces && (s.is_inline || s.is_behind))
 
 abbrev pub is_claim_word : Kind → Bool
@@ -94,11 +94,11 @@ is_claim_word kind.Xs = true
 is_claim_word _ = false
 
 -- whether a token stands in a claim on channels, from its word on
-abbrev pub claims : Stage → Kind → Bool
+abbrev pub claims : DeclarationStage → Kind → Bool
 claims s k = is_claim_word k || (s.is_claim && not (ends k))
 
 -- whether a token stands in a declaration, or between declarations
-abbrev pub is_quiet : Stage → Kind → List Written → Bool
+abbrev pub is_quiet : DeclarationStage → Kind → List Written → Bool
 is_quiet s k ts =
     let is_word = is_type k || is_modifier k in
     let is_user = same_kind k kind.Name && begins_with kind.Name ts in
@@ -106,19 +106,19 @@ is_quiet s k ts =
     let is_declared = s.reading.goes_on || sizes.declares s.reading k in
     (is_word || is_user) || (is_between || (is_declared || claims s k))
 
-abbrev pub ends_body : Stage → Kind → Bool
+abbrev pub ends_body : DeclarationStage → Kind → Bool
 ends_body s k = same_kind k kind.CloseBrace && nat_lt s.braces 2
 
-abbrev pub type_behind : Stage → Kind → Kind
+abbrev pub type_behind : DeclarationStage → Kind → Kind
 type_behind s k = if is_first s k then s.last else s.type_word
 
-abbrev pub next_item : Stage → Kind → List Written → Item
+abbrev pub next_item : DeclarationStage → Kind → List Written → PendingStep
 next_item s k ts =
     if sizes.declares s.reading k then (if is_step s then item_of (type_behind s k) else item.Nothing)
     else (if s.reading.depth == 0 then item_behind s.item k ts else s.item)
 
 -- behind a token, before these stretches
-abbrev pub behind : Stage → Kind → List ℕ → List Written → Stage
+abbrev pub behind : DeclarationStage → Kind → List ℕ → List Written → DeclarationStage
 behind s k t ts =
     record {
       reading = sizes.behind s.reading k t;

@@ -3,7 +3,7 @@
 ghost use Rattle.std.specs.Prelude.{◌≡◌, IfOk};
 ghost use Rattle.declared_steps.specs.Changes as changes;
 
-use crate::stage::{Item, Stage, ends, item_behind};
+use crate::stage::{DeclarationStage, PendingStep, ends, item_behind};
 use pml_token::token::{Kind, same_kind};
 use prepare::stretch::Stretch;
 use std::alloc::{AllocError, Global};
@@ -11,7 +11,7 @@ use std::marker::Model;
 
 /// What becomes of a token. `NAME` is the name that was declared last, or its first element; `TYPE` is its type.
 #[derive(Clone, Copy)]
-pub enum Change {
+pub enum StepChange {
     /// It stays.
     Kept,
     /// `; NAME` stands before it, which is `=`; whether the name is an array.
@@ -26,23 +26,23 @@ pub enum Change {
 
 /// A token, with what becomes of it.
 #[derive(Drop)]
-pub struct Changed<'t> {
+pub struct SteppedToken<'t> {
     gap: &'t [u8],
     token: &'t [u8],
-    change: Change,
+    change: StepChange,
     name: &'t [u8],
     word: &'t [u8],
 }
 
-impl<'t> Model for Changed<'t> {
-    ghost use Rattle.declared_steps.specs.Changed.{Changed as Seen};
+impl<'t> Model for SteppedToken<'t> {
+    ghost use Rattle.declared_steps.specs.SteppedToken.{SteppedToken as Seen};
 
     ghost Value = { Seen };
 
     ghost view = { λ c. record { gap = c.gap.now; token = c.token.now; change = c.change; name = c.name.now; word = c.word.now } };
 }
 
-impl<'t> Changed<'t> {
+impl<'t> SteppedToken<'t> {
     /// The blanks and comments before the token.
     pub fn gap(&self) -> &'t [u8]
         ensures { result.now ≡ self.now.gap }
@@ -58,7 +58,7 @@ impl<'t> Changed<'t> {
     }
 
     /// What becomes of it.
-    pub fn change(&self) -> Change
+    pub fn change(&self) -> StepChange
         ensures { result ≡ self.now.change }
     {
         self.change
@@ -80,13 +80,13 @@ impl<'t> Changed<'t> {
 }
 
 // What becomes of a token of a channel, which is left without a value.
-fn change_of_channel(kind: Kind, is_array: bool, item: Item) -> Change
+fn change_of_channel(kind: Kind, is_array: bool, item: PendingStep) -> StepChange
     ensures { result ≡ changes.change_of_channel kind is_array item }
 {
-    if same_kind(kind, Kind::Assign) && matches!(item, Item::Valued) {
-        Change::Assigned(is_array)
+    if same_kind(kind, Kind::Assign) && matches!(item, PendingStep::Valued) {
+        StepChange::Assigned(is_array)
     } else {
-        Change::Kept
+        StepChange::Kept
     }
 }
 
@@ -180,60 +180,60 @@ fn is_given(is_array: bool, name: &[u8], stretches: &[Stretch<'_>]) -> bool
 }
 
 // What becomes of the end of a declaration without a value.
-fn change_of_end(is_array: bool, kind: Kind, name: &[u8], back: &[Stretch<'_>]) -> Change
+fn change_of_end(is_array: bool, kind: Kind, name: &[u8], back: &[Stretch<'_>]) -> StepChange
     ensures { result ≡ changes.change_of_end is_array kind name.now back.now }
 {
     if same_kind(kind, Kind::Semicolon) && is_given(is_array, name, back) {
-        Change::Kept
+        StepChange::Kept
     } else {
-        Change::Ended(is_array)
+        StepChange::Ended(is_array)
     }
 }
 
-fn change_of_variable(is_array: bool, kind: Kind, name: &[u8], back: &[Stretch<'_>]) -> Change
+fn change_of_variable(is_array: bool, kind: Kind, name: &[u8], back: &[Stretch<'_>]) -> StepChange
     ensures { result ≡ changes.change_of_variable is_array kind name.now back.now }
 {
     if same_kind(kind, Kind::Assign) {
-        Change::Assigned(is_array)
+        StepChange::Assigned(is_array)
     } else if same_kind(kind, Kind::Comma) {
-        Change::Cleared(is_array)
+        StepChange::Cleared(is_array)
     } else if ends(kind) {
         change_of_end(is_array, kind, name, back)
     } else {
-        Change::Kept
+        StepChange::Kept
     }
 }
 
 // What becomes of a token that stands in no brackets of the declaration.
-fn change_of(item: Item, kind: Kind, name: &[u8], back: &[Stretch<'_>]) -> Change
+fn change_of(item: PendingStep, kind: Kind, name: &[u8], back: &[Stretch<'_>]) -> StepChange
     ensures { result ≡ changes.change_of item kind name.now back.now }
 {
     match item {
-        Item::Nothing => Change::Kept,
-        Item::Named(is_array, is_channel) => {
+        PendingStep::Nothing => StepChange::Kept,
+        PendingStep::Named(is_array, is_channel) => {
             if is_channel {
                 change_of_channel(kind, is_array, item_behind(item, kind, back))
             } else {
                 change_of_variable(is_array, kind, name, back)
             }
         }
-        Item::Valued => {
+        PendingStep::Valued => {
             if same_kind(kind, Kind::Comma) {
-                Change::Parted
+                StepChange::Parted
             } else {
-                Change::Kept
+                StepChange::Kept
             }
         }
     }
 }
 
-fn change_at(stage: Stage, kind: Kind, name: &[u8], back: &[Stretch<'_>]) -> Change
+fn change_at(stage: DeclarationStage, kind: Kind, name: &[u8], back: &[Stretch<'_>]) -> StepChange
     ensures { result ≡ changes.change_at stage kind name.now back.now }
 {
     if stage.reading.depth == 0 {
         change_of(stage.item, kind, name, back)
     } else {
-        Change::Kept
+        StepChange::Kept
     }
 }
 
@@ -245,11 +245,14 @@ fn either<'t>(is_first: bool, one: &'t [u8], other: &'t [u8]) -> &'t [u8]
 }
 
 /// What becomes of the tokens of a text where declarations are steps.
-pub fn changes<'t>(alloc: Global, stretches: &[Stretch<'t>]) -> Result<Vec<Changed<'t>>, AllocError>
+pub fn changes<'t>(
+    alloc: Global,
+    stretches: &[Stretch<'t>],
+) -> Result<Vec<SteppedToken<'t>>, AllocError>
     ensures { IfOk result (λ v. v.items ≡ changes.changes stretches.now) }
 {
     let mut out = Vec::new(alloc);
-    let mut stage = Stage::start();
+    let mut stage = DeclarationStage::start();
     let mut last: &'t [u8] = b"";
     let mut name: &'t [u8] = b"";
     let mut word: &'t [u8] = b"";
@@ -257,7 +260,7 @@ pub fn changes<'t>(alloc: Global, stretches: &[Stretch<'t>]) -> Result<Vec<Chang
     while let [stretch, back @ ..] = rest {
         let kind = stretch.kind();
         let token = stretch.token();
-        out.push(Changed {
+        out.push(SteppedToken {
             gap: stretch.gap(),
             token,
             change: change_at(stage, kind, name, back),

@@ -5,12 +5,12 @@ ghost use Rattle.declared_steps.specs.Stages as stages;
 
 use pml_token::token::{Kind, same_kind};
 use prepare::context::deeper;
-use prepare::sizes::{Lead, Reading};
+use prepare::sizes::{DeclarationReading, Lead};
 use prepare::stretch::Stretch;
 
 /// What is still to be written of the name that was declared last.
 #[derive(Clone, Copy)]
-pub enum Item {
+pub enum PendingStep {
     /// Nothing: it is no step.
     Nothing,
     /// Its value, and 0 if it has none; whether it is an array, and whether it is a channel, which is left without one.
@@ -21,9 +21,9 @@ pub enum Item {
 
 /// What is known before a token.
 #[derive(Clone, Copy)]
-pub struct Stage {
+pub struct DeclarationStage {
     /// What is known of declarations.
-    pub reading: Reading,
+    pub reading: DeclarationReading,
     /// The last token.
     pub last: Kind,
     /// The type of the declaration.
@@ -36,7 +36,7 @@ pub struct Stage {
     pub is_behind: bool,
     /// Whether this is a claim on channels, by `xr` or `xs`, and no statement.
     pub is_claim: bool,
-    pub item: Item,
+    pub item: PendingStep,
 }
 
 fn is_type(kind: Kind) -> bool
@@ -114,62 +114,62 @@ fn braces_behind(braces: u32, kind: Kind) -> u32
 }
 
 // What is to be written of a name of this type.
-fn item_of(type_word: Kind) -> Item
+fn item_of(type_word: Kind) -> PendingStep
     ensures { result ≡ stages.item_of type_word }
 {
     if is_type(type_word) {
-        Item::Named(false, false)
+        PendingStep::Named(false, false)
     } else if same_kind(type_word, Kind::Chan) {
-        Item::Named(false, true)
+        PendingStep::Named(false, true)
     } else {
-        Item::Nothing
+        PendingStep::Nothing
     }
 }
 
 // What is to be written of a name behind `=`: a channel that is made there is no step.
-fn item_with_value(is_channel: bool, back: &[Stretch<'_>]) -> Item
+fn item_with_value(is_channel: bool, back: &[Stretch<'_>]) -> PendingStep
     ensures { result ≡ stages.item_with_value is_channel back.now }
 {
     if is_channel && begins_with(Kind::OpenBracket, back) {
-        Item::Nothing
+        PendingStep::Nothing
     } else {
-        Item::Valued
+        PendingStep::Valued
     }
 }
 
 /// What is to be written of a name behind a token that stands in no brackets of the declaration.
-pub fn item_behind(item: Item, kind: Kind, back: &[Stretch<'_>]) -> Item
+pub fn item_behind(item: PendingStep, kind: Kind, back: &[Stretch<'_>]) -> PendingStep
     ensures { result ≡ stages.item_behind item kind back.now }
 {
     if same_kind(kind, Kind::Comma) || ends(kind) {
-        return Item::Nothing;
+        return PendingStep::Nothing;
     }
     match item {
-        Item::Named(is_array, is_channel) => {
+        PendingStep::Named(is_array, is_channel) => {
             if same_kind(kind, Kind::Assign) {
                 item_with_value(is_channel, back)
             } else {
-                Item::Named(is_array || same_kind(kind, Kind::OpenBracket), is_channel)
+                PendingStep::Named(is_array || same_kind(kind, Kind::OpenBracket), is_channel)
             }
         }
         _ => item,
     }
 }
 
-impl Stage {
+impl DeclarationStage {
     /// The beginning of a text.
-    pub fn start() -> Stage
+    pub fn start() -> DeclarationStage
         ensures { result ≡ stages.start }
     {
-        Stage {
-            reading: Reading::start(),
+        DeclarationStage {
+            reading: DeclarationReading::start(),
             last: Kind::End,
             type_word: Kind::End,
             braces: 0,
             is_inline: false,
             is_behind: false,
             is_claim: false,
-            item: Item::Nothing,
+            item: PendingStep::Nothing,
         }
     }
 
@@ -221,14 +221,14 @@ impl Stage {
         }
     }
 
-    fn next_item(self, kind: Kind, back: &[Stretch<'_>]) -> Item
+    fn next_item(self, kind: Kind, back: &[Stretch<'_>]) -> PendingStep
         ensures { result ≡ stages.next_item self kind back.now }
     {
         if self.reading.declares(kind) {
             return if self.is_step() {
                 item_of(self.type_behind(kind))
             } else {
-                Item::Nothing
+                PendingStep::Nothing
             };
         }
         if self.reading.depth == 0 {
@@ -239,11 +239,11 @@ impl Stage {
     }
 
     /// What is known behind a token, before these stretches.
-    pub fn behind(self, kind: Kind, token: &[u8], back: &[Stretch<'_>]) -> Stage
+    pub fn behind(self, kind: Kind, token: &[u8], back: &[Stretch<'_>]) -> DeclarationStage
         ensures { result ≡ stages.behind self kind token.now back.now }
     {
         let ends_body = self.ends_body(kind);
-        Stage {
+        DeclarationStage {
             reading: self.reading.behind(kind, token),
             last: kind,
             type_word: self.type_behind(kind),

@@ -3,7 +3,7 @@
 ghost use Rattle.std.specs.Prelude.{◌≡◌, ◌≤◌, ◌++◌, length, IfOk, OnOk};
 ghost use Rattle.declared_steps.specs.Writing as writing;
 
-use crate::changes::{Change, Changed, changes};
+use crate::changes::{StepChange, SteppedToken, changes};
 use prepare::MOST_BYTES;
 use prepare::stretches::stretches;
 use std::alloc::{AllocError, Global};
@@ -22,13 +22,13 @@ fn add_name(out: &mut Vec<u8>, name: &[u8], is_array: bool) -> Result<(), AllocE
 }
 
 // Writes what stands before the gap.
-fn add_front(out: &mut Vec<u8>, changed: &Changed<'_>) -> Result<(), AllocError>
+fn add_front(out: &mut Vec<u8>, changed: &SteppedToken<'_>) -> Result<(), AllocError>
     ensures { OnOk result (out.new.items ≡ out.old.items ++ writing.front changed.now.name changed.now.change) }
 {
     match changed.change() {
-        Change::Kept | Change::Parted => Ok(()),
-        Change::Assigned(is_array) => add_name(out, changed.name(), is_array),
-        Change::Cleared(is_array) | Change::Ended(is_array) => {
+        StepChange::Kept | StepChange::Parted => Ok(()),
+        StepChange::Assigned(is_array) => add_name(out, changed.name(), is_array),
+        StepChange::Cleared(is_array) | StepChange::Ended(is_array) => {
             add_name(out, changed.name(), is_array)?;
             out.extend_from_slice(b" = 0")
         }
@@ -36,21 +36,21 @@ fn add_front(out: &mut Vec<u8>, changed: &Changed<'_>) -> Result<(), AllocError>
 }
 
 // Writes what stands behind the gap.
-fn add_shown(out: &mut Vec<u8>, changed: &Changed<'_>) -> Result<(), AllocError>
+fn add_shown(out: &mut Vec<u8>, changed: &SteppedToken<'_>) -> Result<(), AllocError>
     ensures { OnOk result (out.new.items ≡ out.old.items ++ writing.shown changed.now.word changed.now.change changed.now.token) }
 {
     match changed.change() {
-        Change::Kept | Change::Assigned(_) | Change::Ended(_) => {
+        StepChange::Kept | StepChange::Assigned(_) | StepChange::Ended(_) => {
             out.extend_from_slice(changed.token())
         }
-        Change::Cleared(_) | Change::Parted => {
+        StepChange::Cleared(_) | StepChange::Parted => {
             out.extend_from_slice(b"; ")?;
             out.extend_from_slice(changed.word())
         }
     }
 }
 
-fn add_changed(out: &mut Vec<u8>, changed: &Changed<'_>) -> Result<(), AllocError>
+fn add_changed(out: &mut Vec<u8>, changed: &SteppedToken<'_>) -> Result<(), AllocError>
     ensures { OnOk result (out.new.items ≡ out.old.items ++ writing.one changed.now) }
 {
     add_front(out, changed)?;
@@ -59,7 +59,7 @@ fn add_changed(out: &mut Vec<u8>, changed: &Changed<'_>) -> Result<(), AllocErro
 }
 
 /// What is written of all.
-pub fn written(alloc: Global, all: &[Changed<'_>]) -> Result<Vec<u8>, AllocError>
+pub fn written(alloc: Global, all: &[SteppedToken<'_>]) -> Result<Vec<u8>, AllocError>
     ensures { IfOk result (λ v. v.items ≡ writing.written all.now) }
 {
     let mut out = Vec::new(alloc);
@@ -82,14 +82,14 @@ fn line_behind(line: u64, text: &[u8]) -> u64
     line
 }
 
-fn is_kept(change: Change) -> bool
+fn is_kept(change: StepChange) -> bool
     ensures { result ≡ writing.is_kept change }
 {
-    matches!(change, Change::Kept)
+    matches!(change, StepChange::Kept)
 }
 
 // The lines of tokens that do not stay.
-fn lines_of(alloc: Global, all: &[Changed<'_>]) -> Result<Vec<u64>, AllocError>
+fn lines_of(alloc: Global, all: &[SteppedToken<'_>]) -> Result<Vec<u64>, AllocError>
     ensures { IfOk result (λ v. length v.items ≤ length all.now) }
 {
     let mut lines: Vec<u64> = Vec::new(alloc);

@@ -3,7 +3,7 @@
 ghost use Rattle.std.specs.Prelude.{OnOk};
 ghost use Rattle.explain.specs.Said.{Keeps};
 
-use crate::message::Message;
+use crate::message::Notice;
 use std::alloc::AllocError;
 use std::str;
 
@@ -86,7 +86,7 @@ fn is_blank(sign: &str) -> bool {
 /// What is told of a sign that nothing is known of.
 pub const ANY: &str = "letters and signs outside of ASCII stand only in strings and comments";
 
-fn of_sign(message: &mut Message<'_>, sign: &str) -> Result<(), AllocError>
+fn of_sign(message: &mut Notice<'_>, sign: &str) -> Result<(), AllocError>
     ensures { OnOk result (Keeps message.old message.new) }
 {
     if is_blank(sign) {
@@ -102,7 +102,7 @@ fn of_sign(message: &mut Message<'_>, sign: &str) -> Result<(), AllocError>
 }
 
 /// Of a character outside of ASCII.
-pub fn outside_of_ascii(message: &mut Message<'_>, sign: &[u8]) -> Result<(), AllocError>
+pub fn outside_of_ascii(message: &mut Notice<'_>, sign: &[u8]) -> Result<(), AllocError>
     ensures { OnOk result (Keeps message.old message.new) }
 {
     match str::from_utf8(sign) {

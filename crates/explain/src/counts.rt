@@ -3,10 +3,11 @@
 ghost use Rattle.std.specs.Prelude.{OnOk};
 ghost use Rattle.explain.specs.Said.{Keeps};
 
-use crate::message::Message;
+use crate::message::Notice;
 use crate::names::did_you_mean;
 use explain_cause::cause::{
-    Circle, ControlCause, CountCause, Fault, InlineCause, LabelCause, Named, RangeCause, StartCause,
+    CircleLabels, ControlCause, CountCause, Hazard, InlineCause, LabelCause, Named, RangeCause,
+    StartCause,
 };
 use profile::{
     MOST_BITS, MOST_CALLS, MOST_CELLS, MOST_CHANNELS, MOST_CONSTANTS, MOST_FIELDS, MOST_MESSAGES,
@@ -16,7 +17,7 @@ use std::alloc::AllocError;
 
 /// Of another number of arguments than there are parameters.
 fn arguments(
-    message: &mut Message<'_>,
+    message: &mut Notice<'_>,
     name: Named<'_>,
     given: usize,
     wanted: usize,
@@ -29,7 +30,7 @@ fn arguments(
 }
 
 /// Of another number of values than a text has conversions.
-fn values(message: &mut Message<'_>, given: usize, wanted: usize) -> Result<(), AllocError>
+fn values(message: &mut Notice<'_>, given: usize, wanted: usize) -> Result<(), AllocError>
     ensures { OnOk result (Keeps message.old message.new) }
 {
     message.push("the text has ")?;
@@ -38,7 +39,7 @@ fn values(message: &mut Message<'_>, given: usize, wanted: usize) -> Result<(), 
 }
 
 /// Of a wrong number of arguments.
-pub fn of_count(message: &mut Message<'_>, cause: CountCause<'_>) -> Result<(), AllocError>
+pub fn of_count(message: &mut Notice<'_>, cause: CountCause<'_>) -> Result<(), AllocError>
     ensures { OnOk result (Keeps message.old message.new) }
 {
     match cause {
@@ -56,7 +57,7 @@ pub fn of_count(message: &mut Message<'_>, cause: CountCause<'_>) -> Result<(), 
 }
 
 /// Of a label.
-pub fn of_label(message: &mut Message<'_>, cause: LabelCause<'_>) -> Result<(), AllocError>
+pub fn of_label(message: &mut Notice<'_>, cause: LabelCause<'_>) -> Result<(), AllocError>
     ensures { OnOk result (Keeps message.old message.new) }
 {
     match cause {
@@ -77,7 +78,7 @@ pub fn of_label(message: &mut Message<'_>, cause: LabelCause<'_>) -> Result<(), 
 }
 
 /// The labels of a circle between its first one and the first one again.
-fn way(message: &mut Message<'_>, circle: Circle<'_>) -> Result<(), AllocError>
+fn way(message: &mut Notice<'_>, circle: CircleLabels<'_>) -> Result<(), AllocError>
     ensures { OnOk result (Keeps message.old message.new) }
 {
     message.around(" leads to ", circle.second, "")?;
@@ -88,7 +89,7 @@ fn way(message: &mut Message<'_>, circle: Circle<'_>) -> Result<(), AllocError>
     }
 }
 
-fn of_circle(message: &mut Message<'_>, circle: Circle<'_>) -> Result<(), AllocError>
+fn of_circle(message: &mut Notice<'_>, circle: CircleLabels<'_>) -> Result<(), AllocError>
     ensures { OnOk result (Keeps message.old message.new) }
 {
     message.name(circle.first)?;
@@ -104,7 +105,7 @@ fn of_circle(message: &mut Message<'_>, circle: Circle<'_>) -> Result<(), AllocE
 }
 
 /// Of breaks, d_steps and circles.
-pub fn of_control(message: &mut Message<'_>, cause: ControlCause<'_>) -> Result<(), AllocError>
+pub fn of_control(message: &mut Notice<'_>, cause: ControlCause<'_>) -> Result<(), AllocError>
     ensures { OnOk result (Keeps message.old message.new) }
 {
     match cause {
@@ -141,7 +142,7 @@ pub fn of_control(message: &mut Message<'_>, cause: ControlCause<'_>) -> Result<
 
 /// A number that is outside of what it may be.
 fn outside(
-    message: &mut Message<'_>,
+    message: &mut Notice<'_>,
     number: i32,
     least: usize,
     most: usize,
@@ -156,7 +157,7 @@ fn outside(
 
 /// A number of the declaration of a name that is outside of what it may be.
 fn number_of(
-    message: &mut Message<'_>,
+    message: &mut Notice<'_>,
     what: &str,
     name: &[u8],
     number: i32,
@@ -169,7 +170,7 @@ fn number_of(
     outside(message, number, least, most)
 }
 
-fn of_fields(message: &mut Message<'_>, name: &[u8], number: usize) -> Result<(), AllocError>
+fn of_fields(message: &mut Notice<'_>, name: &[u8], number: usize) -> Result<(), AllocError>
     ensures { OnOk result (Keeps message.old message.new) }
 {
     message.both(
@@ -182,7 +183,7 @@ fn of_fields(message: &mut Message<'_>, name: &[u8], number: usize) -> Result<()
     message.number(MOST_FIELDS)
 }
 
-fn of_declared(message: &mut Message<'_>, cause: RangeCause<'_>) -> Result<(), AllocError>
+fn of_declared(message: &mut Notice<'_>, cause: RangeCause<'_>) -> Result<(), AllocError>
     ensures { OnOk result (Keeps message.old message.new) }
 {
     match cause {
@@ -218,7 +219,7 @@ fn of_declared(message: &mut Message<'_>, cause: RangeCause<'_>) -> Result<(), A
 }
 
 /// Of numbers and cells.
-pub fn of_range(message: &mut Message<'_>, cause: RangeCause<'_>) -> Result<(), AllocError>
+pub fn of_range(message: &mut Notice<'_>, cause: RangeCause<'_>) -> Result<(), AllocError>
     ensures { OnOk result (Keeps message.old message.new) }
 {
     match cause {
@@ -259,17 +260,17 @@ pub fn of_range(message: &mut Message<'_>, cause: RangeCause<'_>) -> Result<(), 
 }
 
 /// What an initialiser did.
-fn deed(fault: Fault) -> &'static str {
+fn deed(fault: Hazard) -> &'static str {
     match fault {
-        Fault::Divides => " divides by 0",
-        Fault::Index => " has an index outside its array",
-        Fault::Channel => " asks a channel that is not there",
-        Fault::Any => " comes to a fault",
+        Hazard::Divides => " divides by 0",
+        Hazard::Index => " has an index outside its array",
+        Hazard::Channel => " asks a channel that is not there",
+        Hazard::Any => " comes to a fault",
     }
 }
 
 /// Of a text in which no process begins.
-fn of_none(message: &mut Message<'_>, proctype: Option<Named<'_>>) -> Result<(), AllocError>
+fn of_none(message: &mut Notice<'_>, proctype: Option<Named<'_>>) -> Result<(), AllocError>
     ensures { OnOk result (Keeps message.old message.new) }
 {
     match proctype {
@@ -284,7 +285,7 @@ fn of_none(message: &mut Message<'_>, proctype: Option<Named<'_>>) -> Result<(),
 }
 
 /// Of the first state.
-pub fn of_start(message: &mut Message<'_>, cause: StartCause<'_>) -> Result<(), AllocError>
+pub fn of_start(message: &mut Notice<'_>, cause: StartCause<'_>) -> Result<(), AllocError>
     ensures { OnOk result (Keeps message.old message.new) }
 {
     match cause {
@@ -314,7 +315,7 @@ pub fn of_start(message: &mut Message<'_>, cause: StartCause<'_>) -> Result<(), 
 }
 
 /// Of a call of an inline.
-fn of_call(message: &mut Message<'_>, cause: InlineCause<'_>) -> Result<(), AllocError>
+fn of_call(message: &mut Notice<'_>, cause: InlineCause<'_>) -> Result<(), AllocError>
     ensures { OnOk result (Keeps message.old message.new) }
 {
     match cause {
@@ -347,7 +348,7 @@ fn of_call(message: &mut Message<'_>, cause: InlineCause<'_>) -> Result<(), Allo
 }
 
 /// Of inlines.
-pub fn of_inline(message: &mut Message<'_>, cause: InlineCause<'_>) -> Result<(), AllocError>
+pub fn of_inline(message: &mut Notice<'_>, cause: InlineCause<'_>) -> Result<(), AllocError>
     ensures { OnOk result (Keeps message.old message.new) }
 {
     match cause {

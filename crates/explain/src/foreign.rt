@@ -3,8 +3,8 @@
 ghost use Rattle.std.specs.Prelude.{OnOk};
 ghost use Rattle.explain.specs.Said.{Keeps};
 
-use crate::message::Message;
-use explain_cause::cause::{Class, Classes};
+use crate::message::Notice;
+use explain_cause::cause::{Classes, Phrase};
 use explain_cause::foreign::Foreign;
 use std::alloc::AllocError;
 
@@ -326,7 +326,7 @@ pub fn advice(foreign: Foreign) -> &'static str {
 }
 
 /// Adds what is told of a word of another language.
-pub fn tell_word(message: &mut Message<'_>, foreign: Foreign, word: &[u8]) -> Result<(), AllocError>
+pub fn tell_word(message: &mut Notice<'_>, foreign: Foreign, word: &[u8]) -> Result<(), AllocError>
     ensures { OnOk result (Keeps message.old message.new) }
 {
     message.around("", word, " is no word here: ")?;
@@ -334,41 +334,41 @@ pub fn tell_word(message: &mut Message<'_>, foreign: Foreign, word: &[u8]) -> Re
 }
 
 /// What a sign is called.
-fn words_of_sign(class: Class) -> &'static str {
+fn words_of_sign(class: Phrase) -> &'static str {
     match class {
-        Class::Semicolon => "`;`",
-        Class::Comma => "`,`",
-        Class::CloseParen => "`)`",
-        Class::CloseBracket => "`]`",
-        Class::CloseBrace => "`}`",
-        Class::OpenParen => "`(`",
-        Class::OpenBrace => "`{`",
-        Class::DoubleColon => "`::`",
-        Class::Assign => "`=`",
-        Class::Colon => "`:`",
-        Class::Of => "`of`",
+        Phrase::Semicolon => "`;`",
+        Phrase::Comma => "`,`",
+        Phrase::CloseParen => "`)`",
+        Phrase::CloseBracket => "`]`",
+        Phrase::CloseBrace => "`}`",
+        Phrase::OpenParen => "`(`",
+        Phrase::OpenBrace => "`{`",
+        Phrase::DoubleColon => "`::`",
+        Phrase::Assign => "`=`",
+        Phrase::Colon => "`:`",
+        Phrase::Of => "`of`",
         _ => "an operator",
     }
 }
 
 /// What a class is called.
-fn words_of(class: Class) -> &'static str {
+fn words_of(class: Phrase) -> &'static str {
     match class {
-        Class::Statement => "a statement",
-        Class::Expression => "an expression",
-        Class::Name => "a name",
-        Class::Type => "a type",
-        Class::Unit => "a declaration or a proctype",
-        Class::Text => "a string",
+        Phrase::Statement => "a statement",
+        Phrase::Expression => "an expression",
+        Phrase::Name => "a name",
+        Phrase::Type => "a type",
+        Phrase::Unit => "a declaration or a proctype",
+        Phrase::Text => "a string",
         sign => words_of_sign(sign),
     }
 }
 
 /// Adds one more of a list, where there is one; `next` is what follows it.
 fn tell_class(
-    message: &mut Message<'_>,
-    class: Option<Class>,
-    next: Option<Class>,
+    message: &mut Notice<'_>,
+    class: Option<Phrase>,
+    next: Option<Phrase>,
 ) -> Result<(), AllocError>
     ensures { OnOk result (Keeps message.old message.new) }
 {
@@ -382,7 +382,7 @@ fn tell_class(
 }
 
 /// Adds what may stand there.
-pub fn tell_classes(message: &mut Message<'_>, classes: Classes) -> Result<(), AllocError>
+pub fn tell_classes(message: &mut Notice<'_>, classes: Classes) -> Result<(), AllocError>
     ensures { OnOk result (Keeps message.old message.new) }
 {
     if let Some(first) = classes.first {

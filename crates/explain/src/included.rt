@@ -2,7 +2,7 @@
 
 ghost use Rattle.std.specs.Prelude.{◌≡◌, length, None};
 
-use source_lines::position::{Line, between, line_of};
+use source_lines::position::{TextLine, between, line_of};
 use std::str;
 
 /// What stands behind each line of an included file.
@@ -12,7 +12,7 @@ const FORM_FEED: u8 = 12;
 #[derive(Clone, Copy)]
 pub struct Included<'t> {
     pub file: &'t str,
-    pub line: Line<'t>,
+    pub line: TextLine<'t>,
 }
 
 /// A row of a table of lines: on this line of the text, behind so many form feeds, the lines of a file go on from this number. The model's own
@@ -99,7 +99,7 @@ pub fn included_at<'t>(text: &'t [u8], table: &'t [u8], offset: usize) -> Option
     let (start, end) = part_round(line.bytes, onset);
     Some(Included {
         file: str::from_utf8(row.file).ok()?,
-        line: Line {
+        line: TextLine {
             number: row.number.saturating_add(feeds.saturating_sub(row.feeds)),
             start: line.start.saturating_add(start),
             bytes: between(line.bytes, start, end),

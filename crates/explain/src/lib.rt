@@ -19,35 +19,35 @@ ghost use Rattle.explain.specs.Request.{asked_for};
 
 use counts::{of_control, of_count, of_inline, of_label, of_range, of_start};
 use diagnostics::Refusal;
-use explain_cause::cause::{Cause, Finding, Segment};
+use explain_cause::cause::{Finding, Reason, Segment};
 use explain_find::cause_of;
 use included::included_at;
-use message::Message;
+use message::Notice;
 use names::{of_declared, of_twice, of_unknown};
 use source_lines::position::shown_offset;
 use source_lines::shown::show_chars;
 use std::alloc::{AllocError, Global};
 use syntax::of_syntax;
 use texts::of_text;
-use told::{Asked, told_alone, told_at};
+use told::{RefusedText, told_alone, told_at};
 
 /// Adds the words of a cause.
-fn tell(message: &mut Message<'_>, cause: Cause<'_>) -> Result<(), AllocError>
+fn tell(message: &mut Notice<'_>, cause: Reason<'_>) -> Result<(), AllocError>
     ensures { OnOk result (Keeps message.old message.new) }
 {
     match cause {
-        Cause::Text(cause) => of_text(message, cause),
-        Cause::Syntax(cause) => of_syntax(message, cause),
-        Cause::Twice(cause) => of_twice(message, cause),
-        Cause::Unknown(cause) => of_unknown(message, cause),
-        Cause::Wrong(cause, first) => of_declared(message, cause, first),
-        Cause::Count(cause) => of_count(message, cause),
-        Cause::Label(cause) => of_label(message, cause),
-        Cause::Control(cause) => of_control(message, cause),
-        Cause::Range(cause) => of_range(message, cause),
-        Cause::Start(cause) => of_start(message, cause),
-        Cause::Inline(cause) => of_inline(message, cause),
-        Cause::Untold => Ok(()),
+        Reason::Text(cause) => of_text(message, cause),
+        Reason::Syntax(cause) => of_syntax(message, cause),
+        Reason::Twice(cause) => of_twice(message, cause),
+        Reason::Unknown(cause) => of_unknown(message, cause),
+        Reason::Wrong(cause, first) => of_declared(message, cause, first),
+        Reason::Count(cause) => of_count(message, cause),
+        Reason::Label(cause) => of_label(message, cause),
+        Reason::Control(cause) => of_control(message, cause),
+        Reason::Range(cause) => of_range(message, cause),
+        Reason::Start(cause) => of_start(message, cause),
+        Reason::Inline(cause) => of_inline(message, cause),
+        Reason::Untold => Ok(()),
     }
 }
 
@@ -56,10 +56,10 @@ fn words_of(
     alloc: Global,
     text: &[u8],
     lines: &[u8],
-    cause: Cause<'_>,
+    cause: Reason<'_>,
 ) -> Result<String, AllocError> {
-    let mut message = Message::new(alloc, text, lines);
-    if let Cause::Untold = cause {
+    let mut message = Notice::new(alloc, text, lines);
+    if let Reason::Untold = cause {
         return Ok(message.into_text());
     }
     message.push(": ")?;
@@ -91,7 +91,7 @@ pub fn explanation_of(
 
 /// What a text was prepared of.
 #[derive(Clone, Copy)]
-pub struct Source<'t> {
+pub struct AuthorSource<'t> {
     /// The model as its author has it.
     pub text: &'t [u8],
     /// Which lines are of included files, as `spinprep` writes it.
@@ -112,7 +112,7 @@ pub fn explain(
 ) -> Result<String, AllocError>
     ensures { IfOk result (λ out. Explains name.now text.now refusal (string_bytes out)) }
 {
-    let source = Source {
+    let source = AuthorSource {
         text,
         lines: b"",
         included: b"",
@@ -126,14 +126,14 @@ pub fn explain_beside(
     alloc: Global,
     name: &str,
     text: &[u8],
-    source: Source<'_>,
+    source: AuthorSource<'_>,
     refusal: Refusal,
 ) -> Result<String, AllocError>
     ensures { IfOk result (λ out. ExplainsBeside (asked_for name.now text.now source.entry) refusal (string_bytes out)) }
 {
     let Finding { place, cause } = cause_of(alloc, text, refusal)?;
     let words = words_of(alloc, text, source.lines, cause)?;
-    let asked = Asked {
+    let asked = RefusedText {
         name,
         text,
         own: source.text,

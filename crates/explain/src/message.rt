@@ -18,14 +18,14 @@ const MOST_SHOWN: usize = 60;
 
 /// A message about a text.
 #[derive(Drop)]
-pub struct Message<'t> {
+pub struct Notice<'t> {
     text: &'t [u8],
     // which of its lines are of included files
     lines: &'t [u8],
     out: String,
 }
 
-impl<'t> Model for Message<'t> {
+impl<'t> Model for Notice<'t> {
     ghost use Rattle.std.specs.Prelude.{ℕ, List, string_bytes};
 
     ghost Value = { List ℕ };
@@ -33,12 +33,12 @@ impl<'t> Model for Message<'t> {
     ghost view = { λ m. string_bytes m.out };
 }
 
-impl<'t> Message<'t> {
+impl<'t> Notice<'t> {
     /// An empty one.
-    pub fn new(alloc: Global, text: &'t [u8], lines: &'t [u8]) -> Message<'t>
+    pub fn new(alloc: Global, text: &'t [u8], lines: &'t [u8]) -> Notice<'t>
         ensures { result ≡ [] }
     {
-        Message {
+        Notice {
             text,
             lines,
             out: String::new(alloc),
@@ -47,7 +47,7 @@ impl<'t> Message<'t> {
 
     /// What it says.
     pub fn into_text(self) -> String {
-        let Message {
+        let Notice {
             text: _,
             lines: _,
             out,

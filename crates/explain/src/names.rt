@@ -4,12 +4,12 @@ ghost use Rattle.std.specs.Prelude.{OnOk};
 ghost use Rattle.explain.specs.Said.{Keeps};
 
 use crate::foreign::advice;
-use crate::message::Message;
-use explain_cause::cause::{Named, Sort, TwiceCause, UnknownCause, WrongCause};
+use crate::message::Notice;
+use explain_cause::cause::{NameSort, Named, TwiceCause, UnknownCause, WrongCause};
 use std::alloc::AllocError;
 
 /// Of a name that is declared twice.
-pub fn of_twice(message: &mut Message<'_>, cause: TwiceCause<'_>) -> Result<(), AllocError>
+pub fn of_twice(message: &mut Notice<'_>, cause: TwiceCause<'_>) -> Result<(), AllocError>
     ensures { OnOk result (Keeps message.old message.new) }
 {
     match cause {
@@ -31,7 +31,7 @@ pub fn of_twice(message: &mut Message<'_>, cause: TwiceCause<'_>) -> Result<(), 
 }
 
 /// The nearest name, if there is one.
-pub fn did_you_mean(message: &mut Message<'_>, near: Option<Named<'_>>) -> Result<(), AllocError>
+pub fn did_you_mean(message: &mut Notice<'_>, near: Option<Named<'_>>) -> Result<(), AllocError>
     ensures { OnOk result (Keeps message.old message.new) }
 {
     match near {
@@ -41,14 +41,14 @@ pub fn did_you_mean(message: &mut Message<'_>, near: Option<Named<'_>>) -> Resul
 }
 
 /// What a sort is called.
-fn a_sort(sort: Sort) -> &'static str {
+fn a_sort(sort: NameSort) -> &'static str {
     match sort {
-        Sort::Variable => "a variable",
-        Sort::Constant => "a name of `mtype`",
-        Sort::Typedef => "a typedef",
-        Sort::Proctype => "a proctype",
-        Sort::Label => "a label",
-        Sort::Field => "a field",
+        NameSort::Variable => "a variable",
+        NameSort::Constant => "a name of `mtype`",
+        NameSort::Typedef => "a typedef",
+        NameSort::Proctype => "a proctype",
+        NameSort::Label => "a label",
+        NameSort::Field => "a field",
     }
 }
 
@@ -57,11 +57,11 @@ pub const TYPES: &str =
     "`bit`, `bool`, `byte`, `chan`, `int`, `mtype`, `pid`, `short`, `unsigned` and the typedefs before it";
 
 /// Of a name that is declared nowhere, and has no other near it.
-fn nowhere(sort: Sort) -> &'static str {
+fn nowhere(sort: NameSort) -> &'static str {
     match sort {
-        Sort::Typedef => " is declared nowhere, where a type is wanted: there are ",
-        Sort::Proctype => " is declared nowhere, where a proctype is wanted",
-        Sort::Variable => {
+        NameSort::Typedef => " is declared nowhere, where a type is wanted: there are ",
+        NameSort::Proctype => " is declared nowhere, where a proctype is wanted",
+        NameSort::Variable => {
             " is declared nowhere: declare a variable before its use, as by `int a`, or a name by `mtype = { a, b }`"
         }
         _ => " is declared nowhere",
@@ -70,7 +70,7 @@ fn nowhere(sort: Sort) -> &'static str {
 
 /// Of a field that a typedef lacks.
 fn no_field(
-    message: &mut Message<'_>,
+    message: &mut Notice<'_>,
     field: &[u8],
     holder: Named<'_>,
     near: Option<Named<'_>>,
@@ -84,9 +84,9 @@ fn no_field(
 
 /// Of a name that is something else than what is wanted.
 fn is_instead(
-    message: &mut Message<'_>,
+    message: &mut Notice<'_>,
     first: Named<'_>,
-    sort: Sort,
+    sort: NameSort,
     behind: &str,
 ) -> Result<(), AllocError>
     ensures { OnOk result (Keeps message.old message.new) }
@@ -98,8 +98,8 @@ fn is_instead(
 
 /// Of a name that is declared nowhere, with the one nearest to it.
 fn of_nowhere(
-    message: &mut Message<'_>,
-    sort: Sort,
+    message: &mut Notice<'_>,
+    sort: NameSort,
     name: &[u8],
     near: Option<Named<'_>>,
 ) -> Result<(), AllocError>
@@ -110,7 +110,7 @@ fn of_nowhere(
         Some(_) => did_you_mean(message, near),
         None => {
             message.push(nowhere(sort))?;
-            message.push(if matches!(sort, Sort::Typedef) {
+            message.push(if matches!(sort, NameSort::Typedef) {
                 TYPES
             } else {
                 ""
@@ -120,15 +120,15 @@ fn of_nowhere(
 }
 
 /// What is told of a name that is something else than a variable, behind its line.
-fn behind_sort(sort: Sort) -> &'static str {
+fn behind_sort(sort: NameSort) -> &'static str {
     match sort {
-        Sort::Proctype => "), where a variable is wanted: a process of it is begun by `run`",
+        NameSort::Proctype => "), where a variable is wanted: a process of it is begun by `run`",
         _ => "), where a variable is wanted",
     }
 }
 
 /// Of a name that is not declared.
-pub fn of_unknown(message: &mut Message<'_>, cause: UnknownCause<'_>) -> Result<(), AllocError>
+pub fn of_unknown(message: &mut Notice<'_>, cause: UnknownCause<'_>) -> Result<(), AllocError>
     ensures { OnOk result (Keeps message.old message.new) }
 {
     match cause {
@@ -220,14 +220,14 @@ fn used(cause: WrongCause<'_>) -> &[u8] {
 }
 
 /// Of a field behind a name that has none.
-fn of_field(message: &mut Message<'_>, name: &[u8], field: &[u8]) -> Result<(), AllocError>
+fn of_field(message: &mut Notice<'_>, name: &[u8], field: &[u8]) -> Result<(), AllocError>
     ensures { OnOk result (Keeps message.old message.new) }
 {
     message.around("", name, " is of no typedef, and has no field ")?;
     message.name(field)
 }
 
-fn of_value(message: &mut Message<'_>, cause: WrongCause<'_>) -> Result<(), AllocError>
+fn of_value(message: &mut Notice<'_>, cause: WrongCause<'_>) -> Result<(), AllocError>
     ensures { OnOk result (Keeps message.old message.new) }
 {
     match cause {
@@ -257,7 +257,7 @@ fn of_value(message: &mut Message<'_>, cause: WrongCause<'_>) -> Result<(), Allo
 
 /// Of a name or a value of the wrong kind, and where the name is declared.
 pub fn of_declared(
-    message: &mut Message<'_>,
+    message: &mut Notice<'_>,
     cause: WrongCause<'_>,
     first: Option<usize>,
 ) -> Result<(), AllocError>
@@ -271,7 +271,7 @@ pub fn of_declared(
 }
 
 /// Of a name or a value of the wrong kind.
-fn of_wrong(message: &mut Message<'_>, cause: WrongCause<'_>) -> Result<(), AllocError>
+fn of_wrong(message: &mut Notice<'_>, cause: WrongCause<'_>) -> Result<(), AllocError>
     ensures { OnOk result (Keeps message.old message.new) }
 {
     match cause {

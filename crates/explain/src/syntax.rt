@@ -4,9 +4,9 @@ ghost use Rattle.std.specs.Prelude.{OnOk};
 ghost use Rattle.explain.specs.Said.{Keeps};
 
 use crate::foreign::{advice, tell_classes, tell_word};
-use crate::message::Message;
+use crate::message::Notice;
 use crate::names::TYPES;
-use explain_cause::cause::{Named, SyntaxCause, Wanted};
+use explain_cause::cause::{Expected, Named, SyntaxCause};
 use source_lines::position::{column, line_of};
 use std::alloc::AllocError;
 
@@ -22,7 +22,7 @@ fn closer(opener: &[u8]) -> &'static str {
 }
 
 /// What closes is missing in front of the token, or of the text's end.
-fn misses_closer(message: &mut Message<'_>, opener: Named<'_>) -> Result<(), AllocError>
+fn misses_closer(message: &mut Notice<'_>, opener: Named<'_>) -> Result<(), AllocError>
     ensures { OnOk result (Keeps message.old message.new) }
 {
     message.push(closer(opener.name))?;
@@ -31,7 +31,7 @@ fn misses_closer(message: &mut Message<'_>, opener: Named<'_>) -> Result<(), All
 }
 
 /// What closes is wanted in front of a `->`.
-fn wants_closer_at_arrow(message: &mut Message<'_>, opener: Named<'_>) -> Result<(), AllocError>
+fn wants_closer_at_arrow(message: &mut Notice<'_>, opener: Named<'_>) -> Result<(), AllocError>
     ensures { OnOk result (Keeps message.old message.new) }
 {
     wants_closer_before(message, opener)?;
@@ -40,7 +40,7 @@ fn wants_closer_at_arrow(message: &mut Message<'_>, opener: Named<'_>) -> Result
     message.figure(", column ", column, "")
 }
 
-fn wants_closer(message: &mut Message<'_>, opener: Named<'_>) -> Result<(), AllocError>
+fn wants_closer(message: &mut Notice<'_>, opener: Named<'_>) -> Result<(), AllocError>
     ensures { OnOk result (Keeps message.old message.new) }
 {
     message.push(closer(opener.name))?;
@@ -49,7 +49,7 @@ fn wants_closer(message: &mut Message<'_>, opener: Named<'_>) -> Result<(), Allo
 
 /// Of a call of an inline that is not defined before it.
 fn wants_inline(
-    message: &mut Message<'_>,
+    message: &mut Notice<'_>,
     name: &[u8],
     later: Option<Named<'_>>,
 ) -> Result<(), AllocError>
@@ -68,7 +68,7 @@ fn wants_inline(
 }
 
 /// `::` and a condition are wanted.
-fn wants_options(message: &mut Message<'_>, word: &[u8]) -> Result<(), AllocError>
+fn wants_options(message: &mut Notice<'_>, word: &[u8]) -> Result<(), AllocError>
     ensures { OnOk result (Keeps message.old message.new) }
 {
     message.around("`::` is wanted behind ", word, "")?;
@@ -79,7 +79,7 @@ fn wants_options(message: &mut Message<'_>, word: &[u8]) -> Result<(), AllocErro
 }
 
 /// What closes is wanted in front of the token.
-fn wants_closer_before(message: &mut Message<'_>, opener: Named<'_>) -> Result<(), AllocError>
+fn wants_closer_before(message: &mut Notice<'_>, opener: Named<'_>) -> Result<(), AllocError>
     ensures { OnOk result (Keeps message.old message.new) }
 {
     message.push(closer(opener.name))?;
@@ -87,7 +87,7 @@ fn wants_closer_before(message: &mut Message<'_>, opener: Named<'_>) -> Result<(
 }
 
 /// Of a name in a declaration that has no type.
-fn untyped(message: &mut Message<'_>, name: &[u8]) -> Result<(), AllocError>
+fn untyped(message: &mut Notice<'_>, name: &[u8]) -> Result<(), AllocError>
     ensures { OnOk result (Keeps message.old message.new) }
 {
     message.around(
@@ -100,7 +100,7 @@ fn untyped(message: &mut Message<'_>, name: &[u8]) -> Result<(), AllocError>
 
 /// Of a name that an inline has, and something else too.
 fn name_of_inline(
-    message: &mut Message<'_>,
+    message: &mut Notice<'_>,
     name: &[u8],
     inline: Named<'_>,
 ) -> Result<(), AllocError>
@@ -112,7 +112,7 @@ fn name_of_inline(
 }
 
 /// Of a call of an inline that has `run` in front of it.
-fn inline_run(message: &mut Message<'_>, name: &[u8], inline: Named<'_>) -> Result<(), AllocError>
+fn inline_run(message: &mut Notice<'_>, name: &[u8], inline: Named<'_>) -> Result<(), AllocError>
     ensures { OnOk result (Keeps message.old message.new) }
 {
     message.around("", name, " is an inline")?;
@@ -121,21 +121,21 @@ fn inline_run(message: &mut Message<'_>, name: &[u8], inline: Named<'_>) -> Resu
 }
 
 /// What is told of names, where something of theirs is wanted.
-fn wants_of_name(message: &mut Message<'_>, wanted: Wanted<'_>) -> Result<(), AllocError>
+fn wants_of_name(message: &mut Notice<'_>, wanted: Expected<'_>) -> Result<(), AllocError>
     ensures { OnOk result (Keeps message.old message.new) }
 {
     match wanted {
-        Wanted::Parameters(name) => {
+        Expected::Parameters(name) => {
             message.around(
                 "`()` or parameters in parentheses are wanted behind ",
                 name,
                 "",
             )
         }
-        Wanted::CloserBefore(opener) => wants_closer_before(message, opener),
-        Wanted::CloserBeforeArrow(opener, _) => wants_closer_at_arrow(message, opener),
-        Wanted::CloserByLayout(opener) => misses_closer(message, opener),
-        Wanted::CloserAndSemicolon(opener) => {
+        Expected::CloserBefore(opener) => wants_closer_before(message, opener),
+        Expected::CloserBeforeArrow(opener, _) => wants_closer_at_arrow(message, opener),
+        Expected::CloserByLayout(opener) => misses_closer(message, opener),
+        Expected::CloserAndSemicolon(opener) => {
             message.push(closer(opener.name))?;
             message.placed(
                 " and `;` are wanted before it, for the ",
@@ -149,7 +149,7 @@ fn wants_of_name(message: &mut Message<'_>, wanted: Wanted<'_>) -> Result<(), Al
 }
 
 /// A value, or what takes a message, is wanted behind a sign.
-fn wants_operand(message: &mut Message<'_>, operator: &[u8]) -> Result<(), AllocError>
+fn wants_operand(message: &mut Notice<'_>, operator: &[u8]) -> Result<(), AllocError>
     ensures { OnOk result (Keeps message.old message.new) }
 {
     match operator {
@@ -163,71 +163,71 @@ fn wants_operand(message: &mut Message<'_>, operator: &[u8]) -> Result<(), Alloc
 }
 
 /// What is wanted for a separator.
-fn wants_sign(message: &mut Message<'_>, wanted: Wanted<'_>) -> Result<(), AllocError>
+fn wants_sign(message: &mut Notice<'_>, wanted: Expected<'_>) -> Result<(), AllocError>
     ensures { OnOk result (Keeps message.old message.new) }
 {
     match wanted {
-        Wanted::SemicolonAtLineEnd(last) => message.line(
+        Expected::SemicolonAtLineEnd(last) => message.line(
             "a `;` is wanted at the end of ",
             last.offset,
             " (models for Spin 6.3 and later leave it out: `spinprep --play MODEL` writes it)",
         ),
-        Wanted::SemicolonOrOption(last) => message.line(
+        Expected::SemicolonOrOption(last) => message.line(
             "a `;` is wanted at the end of ",
             last.offset,
             ", or `::` before it where another option begins",
         ),
-        Wanted::SemicolonFor => message.push("write `;` for it, or `->` behind a condition"),
-        Wanted::OptionFor => message.push("write `::` for it"),
-        Wanted::ArrowFor(_) => message.push("write `->` for it, as in `x == 1 -> x = 2`"),
-        Wanted::Semicolon => message.push("a `;` is wanted before it"),
-        Wanted::OptionSign => message.push("`::` is wanted before it"),
-        Wanted::Operand(operator) => wants_operand(message, operator),
-        Wanted::Arguments(name) => {
+        Expected::SemicolonFor => message.push("write `;` for it, or `->` behind a condition"),
+        Expected::OptionFor => message.push("write `::` for it"),
+        Expected::ArrowFor(_) => message.push("write `->` for it, as in `x == 1 -> x = 2`"),
+        Expected::Semicolon => message.push("a `;` is wanted before it"),
+        Expected::OptionSign => message.push("`::` is wanted before it"),
+        Expected::Operand(operator) => wants_operand(message, operator),
+        Expected::Arguments(name) => {
             message.around(
                 "`()` or arguments in parentheses are wanted behind ",
                 name,
                 "",
             )
         }
-        Wanted::Options(word) => wants_options(message, word),
-        Wanted::Nothing => message.push("it is one too many"),
-        Wanted::Comma | Wanted::CommaBefore(_) => message.push("a `,` is wanted before it"),
+        Expected::Options(word) => wants_options(message, word),
+        Expected::Nothing => message.push("it is one too many"),
+        Expected::Comma | Expected::CommaBefore(_) => message.push("a `,` is wanted before it"),
         _ => message.push("it cannot stand here"),
     }
 }
 
-fn wants(message: &mut Message<'_>, wanted: Wanted<'_>) -> Result<(), AllocError>
+fn wants(message: &mut Notice<'_>, wanted: Expected<'_>) -> Result<(), AllocError>
     ensures { OnOk result (Keeps message.old message.new) }
 {
     match wanted {
-        Wanted::Statement(label) => message.around(
+        Expected::Statement(label) => message.around(
             "a statement is wanted behind the label ",
             label,
             ", for example `skip`",
         ),
-        Wanted::NoList => message.push(
+        Expected::NoList => message.push(
             "a list is no initialiser here: give each element its value by an assignment, as in `a[0] = 1`",
         ),
-        Wanted::NoSubtype => message.push("sub-typed mtypes are left out: write `mtype` alone"),
-        Wanted::NoRun => message.push(
+        Expected::NoSubtype => message.push("sub-typed mtypes are left out: write `mtype` alone"),
+        Expected::NoRun => message.push(
             "`run` stands by itself or behind `x =`, and in no other expression",
         ),
-        Wanted::Closer(opener) => wants_closer(message, opener),
-        Wanted::NothingOpen => message.push("nothing is open that it closes"),
-        Wanted::Name => message.push(
+        Expected::Closer(opener) => wants_closer(message, opener),
+        Expected::NothingOpen => message.push("nothing is open that it closes"),
+        Expected::Name => message.push(
             "a name is wanted, and it is a word of the language: choose another one",
         ),
-        Wanted::PlainAssignment => message.push(
+        Expected::PlainAssignment => message.push(
             "there is no assignment with an operator: write `x = x + 1` for `x += 1`",
         ),
-        Wanted::OneOf(classes) => tell_classes(message, classes),
+        Expected::OneOf(classes) => tell_classes(message, classes),
         wanted => wants_of_name(message, wanted),
     }
 }
 
 /// Of a name that is no type.
-fn no_type(message: &mut Message<'_>, name: &[u8]) -> Result<(), AllocError>
+fn no_type(message: &mut Notice<'_>, name: &[u8]) -> Result<(), AllocError>
     ensures { OnOk result (Keeps message.old message.new) }
 {
     message.around("", name, " is no type here: there are ")?;
@@ -235,7 +235,7 @@ fn no_type(message: &mut Message<'_>, name: &[u8]) -> Result<(), AllocError>
 }
 
 /// Of an inline that stands where a value is wanted.
-fn inline_value(message: &mut Message<'_>, name: &[u8]) -> Result<(), AllocError>
+fn inline_value(message: &mut Notice<'_>, name: &[u8]) -> Result<(), AllocError>
     ensures { OnOk result (Keeps message.old message.new) }
 {
     message.around("", name, " is an inline, and has no value: ")?;
@@ -243,7 +243,7 @@ fn inline_value(message: &mut Message<'_>, name: &[u8]) -> Result<(), AllocError
 }
 
 /// Of a variable that is called as a function.
-fn called(message: &mut Message<'_>, name: &[u8]) -> Result<(), AllocError>
+fn called(message: &mut Notice<'_>, name: &[u8]) -> Result<(), AllocError>
     ensures { OnOk result (Keeps message.old message.new) }
 {
     message.around("", name, " is a variable, and is not called")?;
@@ -251,20 +251,20 @@ fn called(message: &mut Message<'_>, name: &[u8]) -> Result<(), AllocError>
 }
 
 /// Of a word that is told of itself, without what is found behind it; or else nothing is added, and that is answered.
-fn of_word(message: &mut Message<'_>, wanted: Wanted<'_>) -> Result<bool, AllocError>
+fn of_word(message: &mut Notice<'_>, wanted: Expected<'_>) -> Result<bool, AllocError>
     ensures { OnOk result (Keeps message.old message.new) }
 {
     match wanted {
-        Wanted::ForeignWord(foreign, word) => tell_word(message, foreign, word.name)?,
-        Wanted::RunOf(proctype, _) => {
+        Expected::ForeignWord(foreign, word) => tell_word(message, foreign, word.name)?,
+        Expected::RunOf(proctype, _) => {
             message.placed("", proctype, " is a proctype (", "): ")?;
             message.around("write `run` in front of ", proctype.name, "")?;
         }
-        Wanted::Word(name, word) => {
+        Expected::Word(name, word) => {
             message.around("", name.name, " is no word here")?;
             message.around("; did you mean ", word, "?")?;
         }
-        Wanted::NoWord(name) => {
+        Expected::NoWord(name) => {
             message.around(
                 "",
                 name.name,
@@ -272,27 +272,27 @@ fn of_word(message: &mut Message<'_>, wanted: Wanted<'_>) -> Result<bool, AllocE
             )?;
             message.push("leave it out, or write a word of the language for it")?;
         }
-        Wanted::NoType(name) => no_type(message, name.name)?,
-        Wanted::Index(name) => called(message, name.name)?,
-        Wanted::InlineValue(name) => inline_value(message, name.name)?,
-        Wanted::Inline(name, later) => wants_inline(message, name.name, later)?,
-        Wanted::NameOfInline(name, inline) => name_of_inline(message, name.name, inline)?,
-        Wanted::InlineRun(name, inline) => inline_run(message, name.name, inline)?,
-        Wanted::Untyped(name) => untyped(message, name.name)?,
+        Expected::NoType(name) => no_type(message, name.name)?,
+        Expected::Index(name) => called(message, name.name)?,
+        Expected::InlineValue(name) => inline_value(message, name.name)?,
+        Expected::Inline(name, later) => wants_inline(message, name.name, later)?,
+        Expected::NameOfInline(name, inline) => name_of_inline(message, name.name, inline)?,
+        Expected::InlineRun(name, inline) => inline_run(message, name.name, inline)?,
+        Expected::Untyped(name) => untyped(message, name.name)?,
         _ => return Ok(false),
     }
     Ok(true)
 }
 
 /// Of tokens that no tree spells.
-pub fn of_syntax(message: &mut Message<'_>, cause: SyntaxCause<'_>) -> Result<(), AllocError>
+pub fn of_syntax(message: &mut Notice<'_>, cause: SyntaxCause<'_>) -> Result<(), AllocError>
     ensures { OnOk result (Keeps message.old message.new) }
 {
-    if let Wanted::EndOf(opener) = cause.wanted {
+    if let Expected::EndOf(opener) = cause.wanted {
         message.push("the text ends: ")?;
         return wants_closer(message, opener);
     }
-    if let Wanted::EndByLayout(opener) = cause.wanted {
+    if let Expected::EndByLayout(opener) = cause.wanted {
         message.push("the text ends: ")?;
         return misses_closer(message, opener);
     }
@@ -304,7 +304,7 @@ pub fn of_syntax(message: &mut Message<'_>, cause: SyntaxCause<'_>) -> Result<()
     }
     message.around("", cause.found, " found: ")?;
     match cause.wanted {
-        Wanted::Form(form) => message.push(advice(form)),
+        Expected::Form(form) => message.push(advice(form)),
         wanted => wants(message, wanted),
     }
 }

@@ -4,7 +4,7 @@ ghost use Rattle.std.specs.Prelude.{OnOk};
 ghost use Rattle.explain.specs.Said.{Keeps};
 
 use crate::ascii::{ANY, outside_of_ascii};
-use crate::message::Message;
+use crate::message::Notice;
 use explain_cause::cause::{Named, TextCause};
 use profile::{MOST_IN_A_ROW, MOST_OPEN, MOST_TEXT_BYTES};
 use std::alloc::AllocError;
@@ -150,7 +150,7 @@ fn is_directive(directive: &[u8]) -> bool {
     )
 }
 
-fn left_out(message: &mut Message<'_>, word: &[u8]) -> Result<(), AllocError>
+fn left_out(message: &mut Notice<'_>, word: &[u8]) -> Result<(), AllocError>
     ensures { OnOk result (Keeps message.old message.new) }
 {
     if begins(word, b'#') {
@@ -164,7 +164,7 @@ fn left_out(message: &mut Message<'_>, word: &[u8]) -> Result<(), AllocError>
     message.around("", word, about(word))
 }
 
-fn stray(message: &mut Message<'_>, byte: u8) -> Result<(), AllocError>
+fn stray(message: &mut Notice<'_>, byte: u8) -> Result<(), AllocError>
     ensures { OnOk result (Keeps message.old message.new) }
 {
     if byte == b'#' {
@@ -187,7 +187,7 @@ fn stray(message: &mut Message<'_>, byte: u8) -> Result<(), AllocError>
 }
 
 /// Of what is written as a function, and has a `return`.
-fn of_return(message: &mut Message<'_>, function: Named<'_>) -> Result<(), AllocError>
+fn of_return(message: &mut Notice<'_>, function: Named<'_>) -> Result<(), AllocError>
     ensures { OnOk result (Keeps message.old message.new) }
 {
     message.placed(
@@ -203,7 +203,7 @@ fn of_return(message: &mut Message<'_>, function: Named<'_>) -> Result<(), Alloc
     })
 }
 
-fn too_long(message: &mut Message<'_>, bytes: usize) -> Result<(), AllocError>
+fn too_long(message: &mut Notice<'_>, bytes: usize) -> Result<(), AllocError>
     ensures { OnOk result (Keeps message.old message.new) }
 {
     message.figure("it has ", bytes, " bytes or more, and may have ")?;
@@ -211,7 +211,7 @@ fn too_long(message: &mut Message<'_>, bytes: usize) -> Result<(), AllocError>
 }
 
 /// Of a text that has no tokens, that has words that are left out, or that is too deep.
-pub fn of_text(message: &mut Message<'_>, cause: TextCause<'_>) -> Result<(), AllocError>
+pub fn of_text(message: &mut Notice<'_>, cause: TextCause<'_>) -> Result<(), AllocError>
     ensures { OnOk result (Keeps message.old message.new) }
 {
     match cause {

@@ -9,7 +9,7 @@ ghost use Rattle.explain.specs.Request.{request_of};
 use crate::included::included_at;
 use diagnostics::Refusal;
 use explain_cause::cause::Segment;
-use source_lines::beside::{Seen, seen_in};
+use source_lines::beside::{LineSight, seen_in};
 use source_lines::position::{column, line_of, shown_offset};
 use source_lines::shown::{push_number, show_alone, show_chars, show_line};
 use std::alloc::{AllocError, Global};
@@ -17,7 +17,7 @@ use std::str;
 
 /// The text that was refused, the name of its file, the author's text, the lines that are of included files, and the file in which the place lies.
 #[derive(Clone, Copy)]
-pub struct Asked<'t> {
+pub struct RefusedText<'t> {
     pub name: &'t str,
     pub text: &'t [u8],
     pub own: &'t [u8],
@@ -48,7 +48,7 @@ pub fn push_refusal(out: &mut String, refusal: Refusal, words: &str) -> Result<(
 }
 
 /// Adds the column of what is marked, where it is found.
-fn push_column(out: &mut String, seen: Seen<'_>) -> Result<(), AllocError>
+fn push_column(out: &mut String, seen: LineSight<'_>) -> Result<(), AllocError>
     ensures { OnOk result (string_bytes out.new ≡ string_bytes out.old ++ column_said (sight_of seen.entry)) }
 {
     match seen.onset {
@@ -61,7 +61,7 @@ fn push_column(out: &mut String, seen: Seen<'_>) -> Result<(), AllocError>
 }
 
 /// Adds the line, with carets where what is marked is found.
-fn push_lines(out: &mut String, number: usize, seen: Seen<'_>) -> Result<(), AllocError>
+fn push_lines(out: &mut String, number: usize, seen: LineSight<'_>) -> Result<(), AllocError>
     ensures { OnOk result (string_bytes out.new ≡ string_bytes out.old ++ lines_shown number (sight_of seen.entry)) }
 {
     match seen.onset {
@@ -75,7 +75,7 @@ fn told_of(
     alloc: Global,
     file: &str,
     number: usize,
-    seen: Seen<'_>,
+    seen: LineSight<'_>,
     refusal: Refusal,
     words: &str,
 ) -> Result<String, AllocError>
@@ -109,7 +109,7 @@ pub fn told_alone(
 /// All that is told of a place, whose line is shown as it stands in the source.
 pub fn told_at(
     alloc: Global,
-    asked: Asked<'_>,
+    asked: RefusedText<'_>,
     place: Segment,
     refusal: Refusal,
     words: &str,

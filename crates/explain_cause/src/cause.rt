@@ -47,7 +47,7 @@ pub enum TextCause<'t> {
 
 /// What is wanted where no rule reads a token.
 #[derive(Clone, Copy)]
-pub enum Wanted<'t> {
+pub enum Expected<'t> {
     /// A `;` at the end of the line before.
     SemicolonAtLineEnd(Named<'t>),
     /// A `;` in front of the token.
@@ -136,7 +136,7 @@ pub enum Wanted<'t> {
 
 /// What may stand at a place.
 #[derive(Clone, Copy, PartialEq, Eq)]
-pub enum Class {
+pub enum Phrase {
     Statement,
     Expression,
     Name,
@@ -160,17 +160,17 @@ pub enum Class {
 /// At most four of what may stand at a place.
 #[derive(Clone, Copy)]
 pub struct Classes {
-    pub first: Option<Class>,
-    pub second: Option<Class>,
-    pub third: Option<Class>,
-    pub fourth: Option<Class>,
+    pub first: Option<Phrase>,
+    pub second: Option<Phrase>,
+    pub third: Option<Phrase>,
+    pub fourth: Option<Phrase>,
 }
 
 /// Of tokens that no tree spells: the token where it shows, and what was wanted there.
 #[derive(Clone, Copy)]
 pub struct SyntaxCause<'t> {
     pub found: &'t [u8],
-    pub wanted: Wanted<'t>,
+    pub wanted: Expected<'t>,
 }
 
 /// Of a name that is declared twice.
@@ -186,7 +186,7 @@ pub enum TwiceCause<'t> {
 
 /// What a name is where another thing is wanted.
 #[derive(Clone, Copy)]
-pub enum Sort {
+pub enum NameSort {
     Variable,
     Constant,
     Typedef,
@@ -199,7 +199,7 @@ pub enum Sort {
 #[derive(Clone, Copy)]
 pub enum UnknownCause<'t> {
     /// It is declared nowhere; the nearest name that may stand there.
-    Nowhere(Sort, &'t [u8], Option<Named<'t>>),
+    Nowhere(NameSort, &'t [u8], Option<Named<'t>>),
     /// It is declared behind its use.
     Later(Named<'t>),
     /// It is a typedef, and this is of a field of its own.
@@ -207,7 +207,7 @@ pub enum UnknownCause<'t> {
     /// It is declared in a proctype, where alone it can be named.
     Elsewhere(Named<'t>),
     /// It is something else.
-    Instead(Named<'t>, Sort),
+    Instead(Named<'t>, NameSort),
     /// It stands behind `->`, and this record in front of that.
     Arrow(Named<'t>, &'t [u8]),
     /// It is a word of another language.
@@ -242,8 +242,8 @@ pub enum WrongCause<'t> {
     NotPlain(&'t [u8]),
     /// A field's initialiser names a variable.
     Preset(&'t [u8]),
-    NoTypedef(Named<'t>, Sort),
-    NoProctype(Named<'t>, Sort),
+    NoTypedef(Named<'t>, NameSort),
+    NoProctype(Named<'t>, NameSort),
     /// A size, a count, an initialiser of a field or a capacity that is no constant expression.
     OpenSize(&'t [u8]),
     OpenCount(&'t [u8]),
@@ -278,7 +278,7 @@ pub enum LabelCause<'t> {
 
 /// The labels of a circle: how many there are, and the first of them; where there are fewer, the others are empty.
 #[derive(Clone, Copy)]
-pub struct Circle<'t> {
+pub struct CircleLabels<'t> {
     pub count: usize,
     pub first: &'t [u8],
     pub second: &'t [u8],
@@ -297,7 +297,7 @@ pub enum ControlCause<'t> {
     FirstElse(Named<'t>),
     /// What the d_step begins with leads out of it.
     FirstLeaves(Named<'t>),
-    Circle(Circle<'t>),
+    Circle(CircleLabels<'t>),
 }
 
 /// Of numbers and cells.
@@ -319,7 +319,7 @@ pub enum RangeCause<'t> {
 
 /// What an initialiser may have done.
 #[derive(Clone, Copy, PartialEq, Eq)]
-pub enum Fault {
+pub enum Hazard {
     Divides,
     Index,
     Channel,
@@ -333,7 +333,7 @@ pub enum StartCause<'t> {
     NoProcess(Option<Named<'t>>),
     Processes(&'t [u8]),
     Channels(&'t [u8]),
-    Initialiser(&'t [u8], Fault),
+    Initialiser(&'t [u8], Hazard),
 }
 
 /// Of inlines.
@@ -362,7 +362,7 @@ pub enum InlineCause<'t> {
 
 /// Why a model is refused.
 #[derive(Clone, Copy)]
-pub enum Cause<'t> {
+pub enum Reason<'t> {
     Text(TextCause<'t>),
     Syntax(SyntaxCause<'t>),
     Twice(TwiceCause<'t>),
@@ -383,5 +383,5 @@ pub enum Cause<'t> {
 #[derive(Clone, Copy)]
 pub struct Finding<'t> {
     pub place: Option<Segment>,
-    pub cause: Cause<'t>,
+    pub cause: Reason<'t>,
 }

@@ -1,6 +1,6 @@
 //! Texts without tokens, words that are left out, and texts that are too deep.
 
-use crate::cause::{Cause, Finding, Named, Segment, TextCause};
+use crate::cause::{Finding, Named, Reason, Segment, TextCause};
 use crate::place::{at_place, at_token, closes, is_at, named, opens};
 use pml_token::token::{Kind, Token, same_kind};
 use std::str;
@@ -9,7 +9,7 @@ use std::str;
 pub fn too_long(text: &[u8]) -> Finding<'_> {
     Finding {
         place: None,
-        cause: Cause::Text(TextCause::TooLong(text.len())),
+        cause: Reason::Text(TextCause::TooLong(text.len())),
     }
 }
 
@@ -179,7 +179,7 @@ pub fn uncut(text: &[u8], offset: usize) -> Finding<'_> {
             offset: open,
             length: 1,
         };
-        return at_place(place, Cause::Text(TextCause::Quote));
+        return at_place(place, Reason::Text(TextCause::Quote));
     }
     let rest = &text[offset..];
     let place = Segment {
@@ -187,9 +187,9 @@ pub fn uncut(text: &[u8], offset: usize) -> Finding<'_> {
         length: shown_length(rest),
     };
     if is_conjunction(text, offset) {
-        return at_place(place, Cause::Text(TextCause::Slashes));
+        return at_place(place, Reason::Text(TextCause::Slashes));
     }
-    at_place(place, Cause::Text(stray_at(rest)))
+    at_place(place, Reason::Text(stray_at(rest)))
 }
 
 /// Whether the `\` of a `/\` stands there.
@@ -201,7 +201,7 @@ fn is_conjunction(text: &[u8], offset: usize) -> bool {
 pub fn left_out<'t>(text: &'t [u8], tokens: &[Token<'t>]) -> Option<Finding<'t>> {
     for token in tokens {
         if same_kind(token.kind(), Kind::LeftOut) {
-            return Some(at_token(token, Cause::Text(about_left_out(text, token))));
+            return Some(at_token(token, Reason::Text(about_left_out(text, token))));
         }
     }
     None
@@ -269,7 +269,7 @@ pub fn returned<'t>(text: &'t [u8], tokens: &[Token<'t>]) -> Option<Finding<'t>>
                 return None;
             }
             let cause = TextCause::ReturnOf(function_of(text, tokens, i)?);
-            return Some(at_token(token, Cause::Text(cause)));
+            return Some(at_token(token, Reason::Text(cause)));
         }
     }
     None
@@ -279,11 +279,11 @@ pub fn returned<'t>(text: &'t [u8], tokens: &[Token<'t>]) -> Option<Finding<'t>>
 pub fn too_deep<'t>(tokens: &[Token<'t>], offset: u32, limit: TextCause<'t>) -> Finding<'t> {
     for token in tokens {
         if token.line() == offset {
-            return at_token(token, Cause::Text(limit));
+            return at_token(token, Reason::Text(limit));
         }
     }
     Finding {
         place: None,
-        cause: Cause::Text(limit),
+        cause: Reason::Text(limit),
     }
 }

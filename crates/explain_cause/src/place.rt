@@ -1,8 +1,8 @@
 //! Tokens that have their places in place of their lines.
 
-ghost use Rattle.std.specs.Prelude.{◌≡◌, ◌≤◌, ◌+◌, length, take, drop};
+ghost use Rattle.std.specs.Prelude.{◌≡◌, ◌≤◌, ◌+◌, ◌-◌, length, take, drop, Some, None};
 
-use crate::cause::{Cause, Finding, Named, Segment};
+use crate::cause::{Finding, Named, Reason, Segment};
 use pml_token::token::{Kind, Token, same_kind};
 
 /// The place of a token.
@@ -46,7 +46,9 @@ pub fn bytes_of<'t>(text: &'t [u8], token: &Token<'_>) -> &'t [u8]
 }
 
 /// A token that is a name, with its place.
-pub fn named<'t>(text: &'t [u8], token: &Token<'_>) -> Named<'t> {
+pub fn named<'t>(text: &'t [u8], token: &Token<'_>) -> Named<'t>
+    ensures { result.offset ≡ token.now.line }
+{
     Named {
         name: bytes_of(text, token),
         offset: token.line() as usize,
@@ -54,7 +56,9 @@ pub fn named<'t>(text: &'t [u8], token: &Token<'_>) -> Named<'t> {
 }
 
 /// What is found at a token.
-pub fn at_token<'t>(token: &Token<'_>, cause: Cause<'t>) -> Finding<'t> {
+pub fn at_token<'t>(token: &Token<'_>, cause: Reason<'t>) -> Finding<'t>
+    ensures { result.place ≡ Some (record { offset = token.now.line; length = length token.now.text }) }
+{
     Finding {
         place: Some(place_of(token)),
         cause,
@@ -62,7 +66,9 @@ pub fn at_token<'t>(token: &Token<'_>, cause: Cause<'t>) -> Finding<'t> {
 }
 
 /// What is found at a place.
-pub fn at_place(place: Segment, cause: Cause<'_>) -> Finding<'_> {
+pub fn at_place(place: Segment, cause: Reason<'_>) -> Finding<'_>
+    ensures { result.place ≡ Some place }
+{
     Finding {
         place: Some(place),
         cause,
@@ -70,10 +76,12 @@ pub fn at_place(place: Segment, cause: Cause<'_>) -> Finding<'_> {
 }
 
 /// No more is known.
-pub fn untold<'t>() -> Finding<'t> {
+pub fn untold<'t>() -> Finding<'t>
+    ensures { result.place ≡ None }
+{
     Finding {
         place: None,
-        cause: Cause::Untold,
+        cause: Reason::Untold,
     }
 }
 
@@ -86,7 +94,9 @@ pub fn kind_at(tokens: &[Token<'_>], at: usize) -> Kind {
 }
 
 /// The tokens from a place of a list on.
-pub fn from<'s, 't>(tokens: &'s [Token<'t>], at: usize) -> &'s [Token<'t>] {
+pub fn from<'s, 't>(tokens: &'s [Token<'t>], at: usize) -> &'s [Token<'t>]
+    ensures { at ≤ length tokens.now → result.now ≡ drop at tokens.now }
+{
     if at <= tokens.len() {
         &tokens[at..]
     } else {
@@ -95,7 +105,9 @@ pub fn from<'s, 't>(tokens: &'s [Token<'t>], at: usize) -> &'s [Token<'t>] {
 }
 
 /// The tokens from a place of a list to the one in front of another.
-pub fn between<'s, 't>(tokens: &'s [Token<'t>], at: usize, end: usize) -> &'s [Token<'t>] {
+pub fn between<'s, 't>(tokens: &'s [Token<'t>], at: usize, end: usize) -> &'s [Token<'t>]
+    ensures { at ≤ end → end ≤ length tokens.now → result.now ≡ take (end - at) (drop at tokens.now) }
+{
     if at <= end && end <= tokens.len() {
         &tokens[at..end]
     } else {

@@ -1,8 +1,8 @@
 //! Breaks and d_steps.
 
-use crate::sign::{Matter, Sign, Sought, first_name, front, place_of_name, sign_at, sign_of};
+use crate::sign::{Lookup, NamedMark, Saying, first_name, front, place_of_name, sign_at, sign_of};
 use explain_cause::brackets::closing;
-use explain_cause::cause::{Cause, ControlCause, Finding, Named, Segment};
+use explain_cause::cause::{ControlCause, Finding, Named, Reason, Segment};
 use explain_cause::place::{place_of, untold};
 use pml_token::token::{Kind, Token, same_kind};
 use promela_model::mark::{Mark, What};
@@ -40,7 +40,7 @@ struct Controlled<'t> {
 fn told(controlled: Controlled<'_>) -> Finding<'_> {
     Finding {
         place: controlled.place,
-        cause: Cause::Control(controlled.cause),
+        cause: Reason::Control(controlled.cause),
     }
 }
 
@@ -53,8 +53,8 @@ pub fn of_break<'t>(breaks: &[Option<u32>], marks: &[Mark<'_>], at: usize) -> Fi
 }
 
 /// Whether a mark is a label or a goto whose name stands behind so many bytes of the text.
-fn is_at(sign: Sign<'_>, offset: usize) -> bool {
-    matches!(sign.matter, Matter::Label | Matter::Goto) && sign.name.offset == offset
+fn is_at(sign: NamedMark<'_>, offset: usize) -> bool {
+    matches!(sign.matter, Saying::Label | Saying::Goto) && sign.name.offset == offset
 }
 
 /// How many marks stand before the innermost d_step round the label or goto whose name is there.
@@ -72,12 +72,12 @@ fn step_of(
             return Ok(step);
         }
         match sign.matter {
-            Matter::Step => {
+            Saying::Step => {
                 open.push(step)?;
                 step = Some(i);
             }
-            Matter::Loop => open.push(step)?,
-            Matter::Leave => step = open.pop().unwrap_or(None),
+            Saying::Loop => open.push(step)?,
+            Saying::Leave => step = open.pop().unwrap_or(None),
             _ => {}
         }
     }
@@ -123,7 +123,7 @@ fn of_goto<'t>(
     owner: usize,
     name: Named<'t>,
 ) -> Result<Option<Controlled<'t>>, AllocError> {
-    match first_name(text, marks, Sought::Label(owner), name.name) {
+    match first_name(text, marks, Lookup::Label(owner), name.name) {
         Some(target) => of_target(alloc, text, marks, name, target),
         None => Ok(None),
     }
@@ -153,15 +153,15 @@ fn step_at<'t>(
 ) -> Result<Option<Controlled<'t>>, AllocError> {
     let sign = sign_at(text, marks, at);
     match sign.matter {
-        Matter::Break => Ok(Some(Controlled {
+        Saying::Break => Ok(Some(Controlled {
             place: break_place(breaks, marks, at),
             cause: ControlCause::BreakOfStep,
         })),
-        Matter::Unless => Ok(Some(Controlled {
+        Saying::Unless => Ok(Some(Controlled {
             place: unless_place(tokens),
             cause: ControlCause::Unless,
         })),
-        Matter::Goto => of_goto(alloc, text, marks, sign.owner, sign.name),
+        Saying::Goto => of_goto(alloc, text, marks, sign.owner, sign.name),
         _ => Ok(None),
     }
 }

@@ -1,8 +1,8 @@
 //! Wrong numbers of arguments, and labels.
 
-use crate::near::{Wish, nearest};
-use crate::sign::{Matter, Sign, Sought, first, first_name, front, place_of_name, sign_at};
-use explain_cause::cause::{Cause, CountCause, Finding, LabelCause, Named, Segment, Sort};
+use crate::near::{InScope, nearest};
+use crate::sign::{Lookup, NamedMark, Saying, first, first_name, front, place_of_name, sign_at};
+use explain_cause::cause::{CountCause, Finding, LabelCause, NameSort, Named, Reason, Segment};
 use explain_cause::place::{at_place, untold};
 use promela_model::mark::Mark;
 use std::alloc::{AllocError, Global};
@@ -16,9 +16,9 @@ struct Counted<'t> {
 
 /// How many parameters a proctype has.
 fn parameters(text: &[u8], marks: &[Mark<'_>], name: &[u8]) -> Option<usize> {
-    match first(text, marks, Sought::Proctype, name) {
+    match first(text, marks, Lookup::Proctype, name) {
         Some(sign) => match sign.matter {
-            Matter::Proctype(count) => Some(count),
+            Saying::Proctype(count) => Some(count),
             _ => None,
         },
         None => None,
@@ -32,7 +32,7 @@ fn of_run<'t>(
     given: usize,
 ) -> Option<Counted<'t>> {
     let wanted = parameters(text, marks, name.name)?;
-    let first = first_name(text, marks, Sought::Declared(0), name.name)?;
+    let first = first_name(text, marks, Lookup::Declared(0), name.name)?;
     Some(Counted {
         place: place_of_name(name),
         cause: CountCause::Run(first, given, wanted),
@@ -123,17 +123,17 @@ fn of_printf<'t>(printed: Named<'t>, given: usize) -> Counted<'t> {
     }
 }
 
-fn of_sign<'t>(text: &'t [u8], marks: &[Mark<'_>], sign: Sign<'t>) -> Option<Counted<'t>> {
+fn of_sign<'t>(text: &'t [u8], marks: &[Mark<'_>], sign: NamedMark<'t>) -> Option<Counted<'t>> {
     match sign.matter {
-        Matter::Run(given) => of_run(text, marks, sign.name, given),
-        Matter::Print(given) => Some(of_printf(sign.name, given)),
+        Saying::Run(given) => of_run(text, marks, sign.name, given),
+        Saying::Print(given) => Some(of_printf(sign.name, given)),
         _ => None,
     }
 }
 
 fn told(counted: Option<Counted<'_>>) -> Finding<'_> {
     match counted {
-        Some(counted) => at_place(counted.place, Cause::Count(counted.cause)),
+        Some(counted) => at_place(counted.place, Reason::Count(counted.cause)),
         None => untold(),
     }
 }
@@ -158,8 +158,8 @@ fn of_missing<'t>(
     owner: usize,
     name: Named<'t>,
 ) -> Result<Option<Labelled<'t>>, AllocError> {
-    let sort = Sort::Label;
-    let near = nearest(alloc, text, marks, Wish { sort, owner }, name.name)?;
+    let sort = NameSort::Label;
+    let near = nearest(alloc, text, marks, InScope { sort, owner }, name.name)?;
     let cause = LabelCause::Missing(name.name, near);
     Ok(Some(Labelled { name, cause }))
 }
@@ -172,7 +172,7 @@ fn of_goto<'t>(
     owner: usize,
     name: Named<'t>,
 ) -> Result<Option<Labelled<'t>>, AllocError> {
-    match first_name(text, marks, Sought::AnyLabel, name.name) {
+    match first_name(text, marks, Lookup::AnyLabel, name.name) {
         Some(other) => {
             let cause = LabelCause::Elsewhere(other);
             Ok(Some(Labelled { name, cause }))
@@ -188,7 +188,7 @@ fn of_second<'t>(
     owner: usize,
     name: Named<'t>,
 ) -> Option<Labelled<'t>> {
-    match first_name(text, before, Sought::Label(owner), name.name) {
+    match first_name(text, before, Lookup::Label(owner), name.name) {
         Some(first) => {
             let cause = LabelCause::Twice(first);
             Some(Labelled { name, cause })
@@ -205,15 +205,15 @@ fn label_at<'t>(
 ) -> Result<Option<Labelled<'t>>, AllocError> {
     let sign = sign_at(text, marks, at);
     match sign.matter {
-        Matter::Label => Ok(of_second(text, front(marks, at), sign.owner, sign.name)),
-        Matter::Goto => of_goto(alloc, text, marks, sign.owner, sign.name),
+        Saying::Label => Ok(of_second(text, front(marks, at), sign.owner, sign.name)),
+        Saying::Goto => of_goto(alloc, text, marks, sign.owner, sign.name),
         _ => Ok(None),
     }
 }
 
 fn told_label(labelled: Option<Labelled<'_>>) -> Finding<'_> {
     match labelled {
-        Some(found) => at_place(place_of_name(found.name), Cause::Label(found.cause)),
+        Some(found) => at_place(place_of_name(found.name), Reason::Label(found.cause)),
         None => untold(),
     }
 }

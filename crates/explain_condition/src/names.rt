@@ -1,13 +1,13 @@
 //! Names that stand twice, and names that are not declared.
 
-use crate::near::{Wish, nearest, nearest_word};
+use crate::near::{InScope, nearest, nearest_word};
 use crate::sign::{
-    Matter, Sign, Sought, behind, first_name, front, is_declared, meaning, place_of_name, sign_at,
-    steps_at,
+    Lookup, NamedMark, Saying, behind, first_name, front, is_declared, meaning, place_of_name,
+    sign_at, steps_at,
 };
-use crate::walk::{End, name_at, walk_behind};
+use crate::walk::{ReferenceEnd, name_at, walk_behind};
 use check_names::meaning::is_special;
-use explain_cause::cause::{Cause, Finding, Named, Sort, TwiceCause, UnknownCause};
+use explain_cause::cause::{Finding, NameSort, Named, Reason, TwiceCause, UnknownCause};
 use explain_cause::foreign::Foreign;
 use explain_cause::place::{at_place, untold};
 use explain_cause::words::foreign_word;
@@ -24,12 +24,12 @@ fn again<'t>(name: Named<'t>, first: Named<'t>) -> TwiceCause<'t> {
 }
 
 /// Of a name that is declared behind these marks.
-fn twice<'t>(text: &'t [u8], before: &[Mark<'_>], sign: Sign<'t>) -> Option<TwiceCause<'t>> {
+fn twice<'t>(text: &'t [u8], before: &[Mark<'_>], sign: NamedMark<'t>) -> Option<TwiceCause<'t>> {
     let name = sign.name;
     if is_special(name.name) {
         return Some(TwiceCause::Special(name.name));
     }
-    match first_name(text, before, Sought::Declared(sign.owner), name.name) {
+    match first_name(text, before, Lookup::Declared(sign.owner), name.name) {
         Some(first) => Some(again(name, first)),
         None => None,
     }
@@ -37,7 +37,7 @@ fn twice<'t>(text: &'t [u8], before: &[Mark<'_>], sign: Sign<'t>) -> Option<Twic
 
 fn told_twice<'t>(name: Named<'t>, cause: Option<TwiceCause<'t>>) -> Finding<'t> {
     match cause {
-        Some(cause) => at_place(place_of_name(name), Cause::Twice(cause)),
+        Some(cause) => at_place(place_of_name(name), Reason::Twice(cause)),
         None => untold(),
     }
 }
@@ -67,9 +67,9 @@ fn no_variable<'t>(
     owner: usize,
     name: &[u8],
 ) -> Option<UnknownCause<'t>> {
-    match first_name(text, marks, Sought::Label(owner), name) {
-        Some(label) => Some(UnknownCause::Instead(label, Sort::Label)),
-        None => match first_name(text, marks, Sought::Local, name) {
+    match first_name(text, marks, Lookup::Label(owner), name) {
+        Some(label) => Some(UnknownCause::Instead(label, NameSort::Label)),
+        None => match first_name(text, marks, Lookup::Local, name) {
             Some(local) => Some(UnknownCause::Elsewhere(local)),
             None => None,
         },
@@ -78,9 +78,9 @@ fn no_variable<'t>(
 
 /// The declaration of a name behind its use.
 fn later<'t>(text: &'t [u8], behind: &[Mark<'_>], owner: usize, name: &[u8]) -> Option<Named<'t>> {
-    match first_name(text, behind, Sought::Declared(owner), name) {
+    match first_name(text, behind, Lookup::Declared(owner), name) {
         Some(own) => Some(own),
-        None => first_name(text, behind, Sought::Declared(0), name),
+        None => first_name(text, behind, Lookup::Declared(0), name),
     }
 }
 
@@ -90,12 +90,12 @@ fn declared_otherwise<'t>(
     marks: &[Mark<'_>],
     at: usize,
     name: &[u8],
-    wish: Wish,
+    wish: InScope,
 ) -> Option<UnknownCause<'t>> {
     match later(text, behind(marks, at), wish.owner, name) {
         Some(first) => Some(UnknownCause::Later(first)),
         None => {
-            if matches!(wish.sort, Sort::Variable) {
+            if matches!(wish.sort, NameSort::Variable) {
                 no_variable(text, marks, wish.owner, name)
             } else {
                 None
@@ -105,9 +105,9 @@ fn declared_otherwise<'t>(
 }
 
 /// How many marks may declare what is wanted: a proctype may be declared behind its use.
-fn declaring(all: usize, at: usize, sort: Sort) -> usize {
+fn declaring(all: usize, at: usize, sort: NameSort) -> usize {
     match sort {
-        Sort::Proctype => all,
+        NameSort::Proctype => all,
         _ => at,
     }
 }
@@ -133,16 +133,20 @@ fn is_thing(foreign: Foreign) -> bool {
 }
 
 /// What a name of a sort is meant for, where it is a word of another language.
-fn meant_for(name: &[u8], sort: Sort) -> Option<Foreign> {
+fn meant_for(name: &[u8], sort: NameSort) -> Option<Foreign> {
     match foreign_word(name) {
-        Some(foreign) if matches!(sort, Sort::Variable) && is_thing(foreign) => None,
-        Some(Foreign::Body) if matches!(sort, Sort::Variable) => Some(Foreign::Leave),
+        Some(foreign) if matches!(sort, NameSort::Variable) && is_thing(foreign) => None,
+        Some(Foreign::Body) if matches!(sort, NameSort::Variable) => Some(Foreign::Leave),
         foreign => foreign,
     }
 }
 
 /// Of a name that is declared nowhere and has none near it: a word of another language, or one that is near to a word of this one.
-fn no_name<'t>(alloc: Global, name: &'t [u8], sort: Sort) -> Result<UnknownCause<'t>, AllocError> {
+fn no_name<'t>(
+    alloc: Global,
+    name: &'t [u8],
+    sort: NameSort,
+) -> Result<UnknownCause<'t>, AllocError> {
     if let Some(foreign) = meant_for(name, sort) {
         return Ok(UnknownCause::Foreign(name, foreign));
     }
@@ -158,7 +162,7 @@ fn nowhere<'t>(
     text: &'t [u8],
     seen: &[Mark<'_>],
     name: Named<'t>,
-    wish: Wish,
+    wish: InScope,
 ) -> Result<Option<Unknown<'t>>, AllocError> {
     let cause = match nearest(alloc, text, seen, wish, name.name)? {
         Some(near) => UnknownCause::Nowhere(wish.sort, name.name, Some(near)),
@@ -183,7 +187,7 @@ fn of_missing<'t>(
     marks: &[Mark<'_>],
     at: usize,
     name: Named<'t>,
-    wish: Wish,
+    wish: InScope,
 ) -> Result<Option<Unknown<'t>>, AllocError> {
     match declared_otherwise(text, marks, at, name.name, wish) {
         Some(cause) => Ok(Some(of_later(name, cause))),
@@ -203,8 +207,8 @@ fn no_field<'t>(
     holder: Named<'t>,
     owner: usize,
 ) -> Result<Option<Unknown<'t>>, AllocError> {
-    let sort = Sort::Field;
-    let near = nearest(alloc, text, marks, Wish { sort, owner }, name.name)?;
+    let sort = NameSort::Field;
+    let near = nearest(alloc, text, marks, InScope { sort, owner }, name.name)?;
     let cause = UnknownCause::Field(name.name, holder, near);
     Ok(Some(Unknown { name, cause }))
 }
@@ -217,7 +221,7 @@ fn of_lacking<'t>(
     name: Named<'t>,
     owner: usize,
 ) -> Result<Option<Unknown<'t>>, AllocError> {
-    match first_name(text, marks, Sought::Fields(owner), b"") {
+    match first_name(text, marks, Lookup::Fields(owner), b"") {
         Some(holder) => no_field(alloc, text, marks, name, holder, owner),
         None => Ok(None),
     }
@@ -233,7 +237,7 @@ fn of_field<'t>(
     steps: &[Shape<'_>],
 ) -> Result<Option<Unknown<'t>>, AllocError> {
     match walk_behind(alloc, front(marks, at), owner, steps)?.end {
-        End::Lacking(number, fields) => {
+        ReferenceEnd::Lacking(number, fields) => {
             of_lacking(alloc, text, marks, name_at(text, steps, number), fields)
         }
         _ => Ok(None),
@@ -245,9 +249,9 @@ fn instead<'t>(
     text: &'t [u8],
     marks: &[Mark<'_>],
     name: Named<'t>,
-    sort: Sort,
+    sort: NameSort,
 ) -> Option<Unknown<'t>> {
-    match first_name(text, marks, Sought::Declared(0), name.name) {
+    match first_name(text, marks, Lookup::Declared(0), name.name) {
         Some(first) => {
             let cause = UnknownCause::Instead(first, sort);
             Some(Unknown { name, cause })
@@ -267,13 +271,13 @@ fn of_use<'t>(
 ) -> Result<Option<Unknown<'t>>, AllocError> {
     let name = name_at(text, steps, 0);
     match meaning(text, marks, at, owner, name.name) {
-        Matter::Variable => of_field(alloc, text, marks, at, owner, steps),
-        Matter::Field => of_field(alloc, text, marks, at, owner, steps),
-        Matter::Proctype(_) => Ok(instead(text, marks, name, Sort::Proctype)),
-        Matter::Typedef(_) => Ok(instead(text, marks, name, Sort::Typedef)),
+        Saying::Variable => of_field(alloc, text, marks, at, owner, steps),
+        Saying::Field => of_field(alloc, text, marks, at, owner, steps),
+        Saying::Proctype(_) => Ok(instead(text, marks, name, NameSort::Proctype)),
+        Saying::Typedef(_) => Ok(instead(text, marks, name, NameSort::Typedef)),
         _ => {
-            let sort = Sort::Variable;
-            of_missing(alloc, text, marks, at, name, Wish { sort, owner })
+            let sort = NameSort::Variable;
+            of_missing(alloc, text, marks, at, name, InScope { sort, owner })
         }
     }
 }
@@ -287,14 +291,14 @@ fn unknown_at<'t>(
     let sign = sign_at(text, marks, at);
     let owner = sign.owner;
     match sign.matter {
-        Matter::Reference(_) => of_use(alloc, text, marks, at, owner, steps_at(marks, at)),
-        Matter::Wanted => {
-            let sort = Sort::Typedef;
-            of_missing(alloc, text, marks, at, sign.name, Wish { sort, owner })
+        Saying::Reference(_) => of_use(alloc, text, marks, at, owner, steps_at(marks, at)),
+        Saying::Wanted => {
+            let sort = NameSort::Typedef;
+            of_missing(alloc, text, marks, at, sign.name, InScope { sort, owner })
         }
-        Matter::Run(_) => {
-            let sort = Sort::Proctype;
-            of_missing(alloc, text, marks, at, sign.name, Wish { sort, owner })
+        Saying::Run(_) => {
+            let sort = NameSort::Proctype;
+            of_missing(alloc, text, marks, at, sign.name, InScope { sort, owner })
         }
         _ => Ok(None),
     }
@@ -302,7 +306,7 @@ fn unknown_at<'t>(
 
 fn told(unknown: Option<Unknown<'_>>) -> Finding<'_> {
     match unknown {
-        Some(found) => at_place(place_of_name(found.name), Cause::Unknown(found.cause)),
+        Some(found) => at_place(place_of_name(found.name), Reason::Unknown(found.cause)),
         None => untold(),
     }
 }

@@ -1,7 +1,7 @@
 //! The nearest name.
 
-use crate::sign::{Matter, Sign, sign_of};
-use explain_cause::cause::{Named, Sort};
+use crate::sign::{NamedMark, Saying, sign_of};
+use explain_cause::cause::{NameSort, Named};
 use promela_model::mark::Mark;
 use std::alloc::{AllocError, Global};
 use std::str;
@@ -12,32 +12,32 @@ const MOST_COMPARED: usize = 32;
 
 /// What may stand at a place: names of this sort, which the owner sees.
 #[derive(Clone, Copy)]
-pub struct Wish {
-    pub sort: Sort,
+pub struct InScope {
+    pub sort: NameSort,
     /// Of a field the typedef, of all else the owner of the place.
     pub owner: usize,
 }
 
 /// Whether what a mark says gives a name of a sort. A constant may stand where a variable may.
-fn is_of(matter: Matter, sort: Sort) -> bool {
+fn is_of(matter: Saying, sort: NameSort) -> bool {
     match matter {
-        Matter::Variable => matches!(sort, Sort::Variable),
-        Matter::Field => matches!(sort, Sort::Field),
-        Matter::Constant => matches!(sort, Sort::Variable | Sort::Constant),
-        Matter::Typedef(_) => matches!(sort, Sort::Typedef),
-        Matter::Proctype(_) => matches!(sort, Sort::Proctype),
-        Matter::Label => matches!(sort, Sort::Label),
+        Saying::Variable => matches!(sort, NameSort::Variable),
+        Saying::Field => matches!(sort, NameSort::Field),
+        Saying::Constant => matches!(sort, NameSort::Variable | NameSort::Constant),
+        Saying::Typedef(_) => matches!(sort, NameSort::Typedef),
+        Saying::Proctype(_) => matches!(sort, NameSort::Proctype),
+        Saying::Label => matches!(sort, NameSort::Label),
         _ => false,
     }
 }
 
 /// Whether names of a sort are seen where an owner's are used.
-fn is_seen(owner: usize, wish: Wish) -> bool {
-    owner == wish.owner || (owner == 0 && !matches!(wish.sort, Sort::Field | Sort::Label))
+fn is_seen(owner: usize, wish: InScope) -> bool {
+    owner == wish.owner || (owner == 0 && !matches!(wish.sort, NameSort::Field | NameSort::Label))
 }
 
 /// Whether the name that a mark gives may stand there.
-fn may_stand(sign: Sign<'_>, wish: Wish) -> bool {
+fn may_stand(sign: NamedMark<'_>, wish: InScope) -> bool {
     is_seen(sign.owner, wish) && is_of(sign.matter, wish.sort)
 }
 
@@ -171,7 +171,7 @@ pub fn nearest<'t>(
     alloc: Global,
     text: &'t [u8],
     marks: &[Mark<'_>],
-    wish: Wish,
+    wish: InScope,
     name: &[u8],
 ) -> Result<Option<Named<'t>>, AllocError> {
     let mut least = usize::MAX;

@@ -1,10 +1,10 @@
 //! Numbers out of range, and too many cells.
 
 use crate::sign::{
-    Matter, Sign, behind, front, is_declared, last_proctype, next_name, place_of_name, sign_at,
+    NamedMark, Saying, behind, front, is_declared, last_proctype, next_name, place_of_name, sign_at,
 };
-use crate::spans::{Part, place_in};
-use explain_cause::cause::{Cause, Finding, Named, RangeCause, Segment};
+use crate::spans::{DeclarationPart, place_in};
+use explain_cause::cause::{Finding, Named, RangeCause, Reason, Segment};
 use explain_cause::place::{at_place, untold};
 use pml_token::token::Token;
 use profile::MOST_FIELDS;
@@ -40,7 +40,7 @@ fn of_name<'t>(name: Named<'t>, cause: RangeCause<'t>) -> Ranged<'t> {
 fn of_starts<'t>(tokens: &[Token<'_>], name: Named<'t>, constant: Constant) -> Ranged<'t> {
     let outside = RangeCause::Count(name.name, number_of(constant));
     Ranged {
-        place: place_in(tokens, name, Part::Count),
+        place: place_in(tokens, name, DeclarationPart::Count),
         cause: of_constant(name.name, constant, outside),
     }
 }
@@ -56,7 +56,7 @@ fn of_channel<'t>(
     }
     let outside = RangeCause::Capacity(name.name, number_of(constant));
     Ranged {
-        place: place_in(tokens, name, Part::Capacity),
+        place: place_in(tokens, name, DeclarationPart::Capacity),
         cause: of_constant(name.name, constant, outside),
     }
 }
@@ -64,19 +64,19 @@ fn of_channel<'t>(
 fn of_size<'t>(tokens: &[Token<'_>], name: Named<'t>, constant: Constant) -> Ranged<'t> {
     let outside = RangeCause::Size(name.name, number_of(constant));
     Ranged {
-        place: place_in(tokens, name, Part::Size),
+        place: place_in(tokens, name, DeclarationPart::Size),
         cause: of_constant(name.name, constant, outside),
     }
 }
 
 /// Of a size, a channel or an initialiser in the declaration of this name.
-fn of_declared<'t>(tokens: &[Token<'_>], name: Named<'t>, matter: Matter) -> Ranged<'t> {
+fn of_declared<'t>(tokens: &[Token<'_>], name: Named<'t>, matter: Saying) -> Ranged<'t> {
     match matter {
-        Matter::Channel(constant, fields) => of_channel(tokens, name, constant, fields),
-        Matter::Misplaced(constant, fields) => of_channel(tokens, name, constant, fields),
-        Matter::Size(constant) => of_size(tokens, name, constant),
+        Saying::Channel(constant, fields) => of_channel(tokens, name, constant, fields),
+        Saying::Misplaced(constant, fields) => of_channel(tokens, name, constant, fields),
+        Saying::Size(constant) => of_size(tokens, name, constant),
         _ => Ranged {
-            place: place_in(tokens, name, Part::Initialiser),
+            place: place_in(tokens, name, DeclarationPart::Initialiser),
             cause: RangeCause::Divides(name.name),
         },
     }
@@ -88,9 +88,9 @@ fn of_value<'t>(
     tokens: &[Token<'_>],
     marks: &[Mark<'_>],
     at: usize,
-    matter: Matter,
+    matter: Saying,
 ) -> Option<Ranged<'t>> {
-    if let Matter::Starts(constant) = matter {
+    if let Saying::Starts(constant) = matter {
         let name = last_proctype(text, front(marks, at))?;
         return Some(of_starts(tokens, name, constant));
     }
@@ -107,16 +107,16 @@ fn range_at<'t>(
     let sign = sign_at(text, marks, at);
     let name = sign.name;
     match sign.matter {
-        Matter::Number => Some(of_name(name, RangeCause::Number(name.name))),
-        Matter::Width => Some(of_name(name, RangeCause::Width(name.name))),
-        Matter::Constant => Some(of_name(name, RangeCause::Constants(name.name))),
+        Saying::Number => Some(of_name(name, RangeCause::Number(name.name))),
+        Saying::Width => Some(of_name(name, RangeCause::Width(name.name))),
+        Saying::Constant => Some(of_name(name, RangeCause::Constants(name.name))),
         matter => of_value(text, tokens, marks, at, matter),
     }
 }
 
 fn told(ranged: Option<Ranged<'_>>) -> Finding<'_> {
     match ranged {
-        Some(ranged) => at_place(ranged.place, Cause::Range(ranged.cause)),
+        Some(ranged) => at_place(ranged.place, Reason::Range(ranged.cause)),
         None => untold(),
     }
 }
@@ -132,9 +132,9 @@ pub fn of_range<'t>(
 }
 
 /// Of what has too many cells, and the marks from it on.
-fn of_sign<'t>(text: &'t [u8], rest: &[Mark<'_>], sign: Sign<'t>) -> Option<Ranged<'t>> {
+fn of_sign<'t>(text: &'t [u8], rest: &[Mark<'_>], sign: NamedMark<'t>) -> Option<Ranged<'t>> {
     match sign.matter {
-        Matter::Channel(_, _) | Matter::Misplaced(_, _) => {
+        Saying::Channel(_, _) | Saying::Misplaced(_, _) => {
             let name = next_name(text, rest)?;
             Some(of_name(name, RangeCause::ChannelCells(name.name)))
         }

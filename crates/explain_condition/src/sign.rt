@@ -6,7 +6,7 @@ use promela_model::mark::{Constant, Declared, Holder, Mark, Role, Shape, Structu
 
 /// What a mark says.
 #[derive(Clone, Copy)]
-pub enum Matter {
+pub enum Saying {
     /// A variable is declared.
     Variable,
     Field,
@@ -46,15 +46,15 @@ pub enum Matter {
 
 /// What a mark says, whose it is, and the name in it, or an empty one.
 #[derive(Clone, Copy)]
-pub struct Sign<'t> {
+pub struct NamedMark<'t> {
     pub owner: usize,
-    pub matter: Matter,
+    pub matter: Saying,
     pub name: Named<'t>,
 }
 
 /// Which mark with a name is looked for.
 #[derive(Clone, Copy)]
-pub enum Sought {
+pub enum Lookup {
     /// The one that declares it for this owner.
     Declared(usize),
     /// The label of this owner.
@@ -88,37 +88,37 @@ pub fn behind<'m, 'a>(marks: &'m [Mark<'a>], count: usize) -> &'m [Mark<'a>] {
     }
 }
 
-fn declared_as(declared: &Declared<'_>) -> Matter {
+fn declared_as(declared: &Declared<'_>) -> Saying {
     match declared {
-        Declared::Variable(Role::Variable, _, _, _) => Matter::Variable,
-        Declared::Variable(Role::Field, _, _, _) => Matter::Field,
-        Declared::Constant => Matter::Constant,
-        Declared::Typedef(fields) => Matter::Typedef(*fields),
-        Declared::Proctype(_, parameters) => Matter::Proctype(*parameters),
+        Declared::Variable(Role::Variable, _, _, _) => Saying::Variable,
+        Declared::Variable(Role::Field, _, _, _) => Saying::Field,
+        Declared::Constant => Saying::Constant,
+        Declared::Typedef(fields) => Saying::Typedef(*fields),
+        Declared::Proctype(_, parameters) => Saying::Proctype(*parameters),
     }
 }
 
-fn matter_of(what: &What<'_>) -> Matter {
+fn matter_of(what: &What<'_>) -> Saying {
     match what {
         What::Declares(_, declared) => declared_as(declared),
-        What::Uses(how, _) => Matter::Reference(*how),
-        What::Typedef(_) => Matter::Wanted,
-        What::Runs(_, given) => Matter::Run(*given),
-        What::Prints(_, given) => Matter::Print(*given),
-        What::Number(_) => Matter::Number,
-        What::Width(_) => Matter::Width,
-        What::Size(size) => Matter::Size(*size),
-        What::Starts(count) => Matter::Starts(*count),
-        What::Preset(_) => Matter::Preset,
-        What::Channel(Holder::Chan, capacity, fields) => Matter::Channel(*capacity, *fields),
-        What::Channel(Holder::Other, capacity, fields) => Matter::Misplaced(*capacity, *fields),
-        What::Label(_) => Matter::Label,
-        What::Goto(_) => Matter::Goto,
-        What::Break => Matter::Break,
-        What::Unless => Matter::Unless,
-        What::Enter(Structure::DStep) => Matter::Step,
-        What::Enter(Structure::Do) => Matter::Loop,
-        What::Leave => Matter::Leave,
+        What::Uses(how, _) => Saying::Reference(*how),
+        What::Typedef(_) => Saying::Wanted,
+        What::Runs(_, given) => Saying::Run(*given),
+        What::Prints(_, given) => Saying::Print(*given),
+        What::Number(_) => Saying::Number,
+        What::Width(_) => Saying::Width,
+        What::Size(size) => Saying::Size(*size),
+        What::Starts(count) => Saying::Starts(*count),
+        What::Preset(_) => Saying::Preset,
+        What::Channel(Holder::Chan, capacity, fields) => Saying::Channel(*capacity, *fields),
+        What::Channel(Holder::Other, capacity, fields) => Saying::Misplaced(*capacity, *fields),
+        What::Label(_) => Saying::Label,
+        What::Goto(_) => Saying::Goto,
+        What::Break => Saying::Break,
+        What::Unless => Saying::Unless,
+        What::Enter(Structure::DStep) => Saying::Step,
+        What::Enter(Structure::Do) => Saying::Loop,
+        What::Leave => Saying::Leave,
     }
 }
 
@@ -145,8 +145,8 @@ fn name_of<'t>(text: &'t [u8], what: &What<'_>) -> Named<'t> {
 }
 
 /// What a mark says.
-pub fn sign_of<'t>(text: &'t [u8], mark: &Mark<'_>) -> Sign<'t> {
-    Sign {
+pub fn sign_of<'t>(text: &'t [u8], mark: &Mark<'_>) -> NamedMark<'t> {
+    NamedMark {
         owner: mark.owner,
         matter: matter_of(&mark.what),
         name: name_of(text, &mark.what),
@@ -154,12 +154,12 @@ pub fn sign_of<'t>(text: &'t [u8], mark: &Mark<'_>) -> Sign<'t> {
 }
 
 /// What the mark at `at` says; where there is none, a structure ends.
-pub fn sign_at<'t>(text: &'t [u8], marks: &[Mark<'_>], at: usize) -> Sign<'t> {
+pub fn sign_at<'t>(text: &'t [u8], marks: &[Mark<'_>], at: usize) -> NamedMark<'t> {
     match behind(marks, at) {
         [mark, ..] => sign_of(text, mark),
-        [] => Sign {
+        [] => NamedMark {
             owner: 0,
-            matter: Matter::Leave,
+            matter: Saying::Leave,
             name: nameless(text),
         },
     }
@@ -181,42 +181,42 @@ pub fn steps_at<'m, 'a>(marks: &'m [Mark<'a>], at: usize) -> &'m [Shape<'a>] {
 }
 
 /// Whether a name is declared.
-pub fn is_declared(matter: Matter) -> bool {
+pub fn is_declared(matter: Saying) -> bool {
     matches!(
         matter,
-        Matter::Variable
-            | Matter::Field
-            | Matter::Constant
-            | Matter::Typedef(_)
-            | Matter::Proctype(_)
+        Saying::Variable
+            | Saying::Field
+            | Saying::Constant
+            | Saying::Typedef(_)
+            | Saying::Proctype(_)
     )
 }
 
-fn has_fields(matter: Matter, owner: usize) -> bool {
+fn has_fields(matter: Saying, owner: usize) -> bool {
     match matter {
-        Matter::Typedef(fields) => fields == owner,
+        Saying::Typedef(fields) => fields == owner,
         _ => false,
     }
 }
 
 /// Whether a mark with some name is one that is looked for.
-fn is_sought(owner: usize, matter: Matter, sought: Sought) -> bool {
+fn is_sought(owner: usize, matter: Saying, sought: Lookup) -> bool {
     match sought {
-        Sought::Declared(wanted) => owner == wanted && is_declared(matter),
-        Sought::Label(wanted) => owner == wanted && matches!(matter, Matter::Label),
-        Sought::AnyLabel => matches!(matter, Matter::Label),
-        Sought::Local => 0 < owner && matches!(matter, Matter::Variable),
-        Sought::Proctype => matches!(matter, Matter::Proctype(_)),
-        Sought::Fields(wanted) => has_fields(matter, wanted),
-        Sought::Any => is_declared(matter),
+        Lookup::Declared(wanted) => owner == wanted && is_declared(matter),
+        Lookup::Label(wanted) => owner == wanted && matches!(matter, Saying::Label),
+        Lookup::AnyLabel => matches!(matter, Saying::Label),
+        Lookup::Local => 0 < owner && matches!(matter, Saying::Variable),
+        Lookup::Proctype => matches!(matter, Saying::Proctype(_)),
+        Lookup::Fields(wanted) => has_fields(matter, wanted),
+        Lookup::Any => is_declared(matter),
     }
 }
 
-fn has_any_name(sought: Sought) -> bool {
-    matches!(sought, Sought::Fields(_) | Sought::Any)
+fn has_any_name(sought: Lookup) -> bool {
+    matches!(sought, Lookup::Fields(_) | Lookup::Any)
 }
 
-fn fits(sign: Sign<'_>, sought: Sought, name: &[u8]) -> bool {
+fn fits(sign: NamedMark<'_>, sought: Lookup, name: &[u8]) -> bool {
     is_sought(sign.owner, sign.matter, sought) && (has_any_name(sought) || sign.name.name == name)
 }
 
@@ -224,9 +224,9 @@ fn fits(sign: Sign<'_>, sought: Sought, name: &[u8]) -> bool {
 pub fn first<'t>(
     text: &'t [u8],
     marks: &[Mark<'_>],
-    sought: Sought,
+    sought: Lookup,
     name: &[u8],
-) -> Option<Sign<'t>> {
+) -> Option<NamedMark<'t>> {
     for mark in marks {
         let sign = sign_of(text, mark);
         if fits(sign, sought, name) {
@@ -240,7 +240,7 @@ pub fn first<'t>(
 pub fn first_name<'t>(
     text: &'t [u8],
     marks: &[Mark<'_>],
-    sought: Sought,
+    sought: Lookup,
     name: &[u8],
 ) -> Option<Named<'t>> {
     match first(text, marks, sought, name) {
@@ -251,7 +251,7 @@ pub fn first_name<'t>(
 
 /// The name that is declared first by these marks.
 pub fn next_name<'t>(text: &'t [u8], marks: &[Mark<'_>]) -> Option<Named<'t>> {
-    first_name(text, marks, Sought::Any, b"")
+    first_name(text, marks, Lookup::Any, b"")
 }
 
 /// The proctype that is declared last by these marks.
@@ -259,7 +259,7 @@ pub fn last_proctype<'t>(text: &'t [u8], marks: &[Mark<'_>]) -> Option<Named<'t>
     let mut found = None;
     for mark in marks {
         let sign = sign_of(text, mark);
-        if is_sought(sign.owner, sign.matter, Sought::Proctype) {
+        if is_sought(sign.owner, sign.matter, Lookup::Proctype) {
             found = Some(sign.name);
         }
     }
@@ -267,28 +267,28 @@ pub fn last_proctype<'t>(text: &'t [u8], marks: &[Mark<'_>]) -> Option<Named<'t>
 }
 
 /// What the first of these marks that declares a name of the owner says.
-fn declared_by(text: &[u8], marks: &[Mark<'_>], owner: usize, name: &[u8]) -> Matter {
-    match first(text, marks, Sought::Declared(owner), name) {
+fn declared_by(text: &[u8], marks: &[Mark<'_>], owner: usize, name: &[u8]) -> Saying {
+    match first(text, marks, Lookup::Declared(owner), name) {
         Some(sign) => sign.matter,
-        None => Matter::Leave,
+        None => Saying::Leave,
     }
 }
 
 /// The second, where the first declares nothing.
-fn or_else(first: Matter, second: Matter) -> Matter {
+fn or_else(first: Saying, second: Saying) -> Saying {
     if is_declared(first) { first } else { second }
 }
 
-fn only_proctype(matter: Matter) -> Matter {
+fn only_proctype(matter: Saying) -> Saying {
     match matter {
-        Matter::Proctype(parameters) => Matter::Proctype(parameters),
-        _ => Matter::Leave,
+        Saying::Proctype(parameters) => Saying::Proctype(parameters),
+        _ => Saying::Leave,
     }
 }
 
 /// What a name of the owner is declared as where the mark at `at` stands, among its own names, the global ones, or else the proctypes
 /// of the whole text.
-pub fn meaning(text: &[u8], marks: &[Mark<'_>], at: usize, owner: usize, name: &[u8]) -> Matter {
+pub fn meaning(text: &[u8], marks: &[Mark<'_>], at: usize, owner: usize, name: &[u8]) -> Saying {
     let before = front(marks, at);
     let own = declared_by(text, before, owner, name);
     let global = declared_by(text, before, 0, name);

@@ -8,7 +8,7 @@ use pml_token::token::{Kind, Token, same_kind};
 
 /// A part of a declaration.
 #[derive(Clone, Copy)]
-pub enum Part {
+pub enum DeclarationPart {
     /// The size of an array.
     Size,
     /// The capacity of a channel.
@@ -133,17 +133,17 @@ fn count_place(tokens: &[Token<'_>], name: usize) -> Option<Segment> {
     span(tokens, start, end)
 }
 
-fn part_place(tokens: &[Token<'_>], name: usize, part: Part) -> Option<Segment> {
+fn part_place(tokens: &[Token<'_>], name: usize, part: DeclarationPart) -> Option<Segment> {
     match part {
-        Part::Size => size_place(tokens, name),
-        Part::Capacity => capacity_place(tokens, name),
-        Part::Initialiser => initialiser_place(tokens, name),
-        Part::Count => count_place(tokens, name),
+        DeclarationPart::Size => size_place(tokens, name),
+        DeclarationPart::Capacity => capacity_place(tokens, name),
+        DeclarationPart::Initialiser => initialiser_place(tokens, name),
+        DeclarationPart::Count => count_place(tokens, name),
     }
 }
 
 /// A part of the declaration of this name, or the name where there is none.
-pub fn place_in(tokens: &[Token<'_>], name: Named<'_>, part: Part) -> Segment {
+pub fn place_in(tokens: &[Token<'_>], name: Named<'_>, part: DeclarationPart) -> Segment {
     let place = match index_at(tokens, name.offset) {
         Some(index) => part_place(tokens, index, part),
         None => None,

@@ -8,7 +8,7 @@ use check_conditions::decide::applies;
 use check_conditions::find::find;
 use check_names::names::all_names;
 use check_names::table::Table;
-use explain_cause::cause::{Cause, Finding, Named, StartCause};
+use explain_cause::cause::{Finding, Named, Reason, StartCause};
 use explain_cause::place::{at_place, end_of, untold};
 use profile::MOST_PROCESSES;
 use promela_model::condition::Condition;
@@ -18,7 +18,7 @@ use std::alloc::{AllocError, Global};
 /// Of a text in which no process begins.
 pub fn of_none<'t>(text: &'t [u8], marks: &[Mark<'_>]) -> Finding<'t> {
     let proctype = last_proctype(text, marks);
-    at_place(end_of(text), Cause::Start(StartCause::NoProcess(proctype)))
+    at_place(end_of(text), Reason::Start(StartCause::NoProcess(proctype)))
 }
 
 /// How many processes a mark lets begin.
@@ -127,7 +127,7 @@ fn of_full<'t>(text: &'t [u8], marks: &[Mark<'_>], full: Full) -> Option<Started
 
 fn told(started: Option<Started<'_>>) -> Finding<'_> {
     match started {
-        Some(found) => at_place(place_of_name(found.name), Cause::Start(found.cause)),
+        Some(found) => at_place(place_of_name(found.name), Reason::Start(found.cause)),
         None => untold(),
     }
 }

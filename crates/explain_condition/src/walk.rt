@@ -13,7 +13,7 @@ use std::alloc::{AllocError, Global};
 
 /// How far a reference leads. Its names are counted from 0.
 #[derive(Clone, Copy)]
-pub enum End {
+pub enum ReferenceEnd {
     /// It begins where this owner's names are used.
     Start(usize),
     /// To a variable of this type.
@@ -38,8 +38,8 @@ pub enum Index {
 
 /// Where a reference leads, and the first index on the way that is not right.
 #[derive(Clone, Copy)]
-pub struct Walk {
-    pub end: End,
+pub struct TracedReference {
+    pub end: ReferenceEnd,
     pub index: Index,
 }
 
@@ -48,13 +48,13 @@ pub struct Walk {
 enum Step {
     /// Whether it is an array, and its type.
     Variable(bool, Form),
-    Last(End),
+    Last(ReferenceEnd),
 }
 
-fn lacking(form: Form, number: usize) -> End {
+fn lacking(form: Form, number: usize) -> ReferenceEnd {
     match form {
-        Form::Struct(owner) => End::Lacking(number, owner),
-        _ => End::Other,
+        Form::Struct(owner) => ReferenceEnd::Lacking(number, owner),
+        _ => ReferenceEnd::Other,
     }
 }
 
@@ -62,14 +62,14 @@ fn lacking(form: Form, number: usize) -> End {
 fn step_of(thing: Thing) -> Step {
     match thing {
         Thing::Variable(v) => Step::Variable(v.array, v.form),
-        _ => Step::Last(End::Other),
+        _ => Step::Last(ReferenceEnd::Other),
     }
 }
 
 fn first_step(table: &Table<'_>, owner: usize, name: &[u8]) -> Step {
     match visible(table, owner, name) {
         Some(thing) => step_of(thing),
-        None => Step::Last(End::Other),
+        None => Step::Last(ReferenceEnd::Other),
     }
 }
 
@@ -77,14 +77,14 @@ fn field_step(table: &Table<'_>, form: Form, name: &[u8], number: usize) -> Step
     match field(table, form, name) {
         Some(Some(thing)) => step_of(thing),
         Some(None) => Step::Last(lacking(form, number)),
-        None => Step::Last(End::NoFields(number)),
+        None => Step::Last(ReferenceEnd::NoFields(number)),
     }
 }
 
-fn next_step(table: &Table<'_>, here: End, name: &[u8], number: usize) -> Step {
+fn next_step(table: &Table<'_>, here: ReferenceEnd, name: &[u8], number: usize) -> Step {
     match here {
-        End::Start(owner) => first_step(table, owner, name),
-        End::Form(form) => field_step(table, form, name, number),
+        ReferenceEnd::Start(owner) => first_step(table, owner, name),
+        ReferenceEnd::Form(form) => field_step(table, form, name, number),
         end => Step::Last(end),
     }
 }
@@ -105,19 +105,19 @@ fn index_of(before: Index, number: usize, indexed: bool, array: bool) -> Index {
     }
 }
 
-fn walk_in(table: &Table<'_>, owner: usize, steps: &[Shape<'_>]) -> Walk {
-    let mut end = End::Start(owner);
+fn walk_in(table: &Table<'_>, owner: usize, steps: &[Shape<'_>]) -> TracedReference {
+    let mut end = ReferenceEnd::Start(owner);
     let mut index = Index::Right;
     for (number, step) in steps.iter().enumerate() {
         match next_step(table, end, step.name.text(), number) {
             Step::Variable(array, form) => {
                 index = index_of(index, number, step.indexed, array);
-                end = End::Form(form);
+                end = ReferenceEnd::Form(form);
             }
-            Step::Last(end) => return Walk { end, index },
+            Step::Last(end) => return TracedReference { end, index },
         }
     }
-    Walk { end, index }
+    TracedReference { end, index }
 }
 
 /// Where a reference leads behind these marks.
@@ -126,7 +126,7 @@ pub fn walk_behind(
     before: &[Mark<'_>],
     owner: usize,
     steps: &[Shape<'_>],
-) -> Result<Walk, AllocError> {
+) -> Result<TracedReference, AllocError> {
     let names = all_names(alloc, before)?;
     Ok(walk_in(&names.table, owner, steps))
 }

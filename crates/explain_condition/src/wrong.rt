@@ -1,13 +1,13 @@
 //! Names and values of the wrong kind.
 
 use crate::sign::{
-    Matter, Sought, behind, first_name, front, last_proctype, meaning, next_name, place_of_name,
+    Lookup, Saying, behind, first_name, front, last_proctype, meaning, next_name, place_of_name,
     sign_at, steps_at,
 };
-use crate::spans::{Part, place_in};
-use crate::walk::{End, Index, Walk, name_at, walk_behind};
+use crate::spans::{DeclarationPart, place_in};
+use crate::walk::{Index, ReferenceEnd, TracedReference, name_at, walk_behind};
 use check_names::meaning::{is_any, is_pid, is_special};
-use explain_cause::cause::{Cause, Finding, Named, Segment, Sort, WrongCause};
+use explain_cause::cause::{Finding, NameSort, Named, Reason, Segment, WrongCause};
 use explain_cause::foreign::Foreign;
 use explain_cause::place::{at_place, untold};
 use explain_cause::words::foreign_word;
@@ -63,13 +63,18 @@ fn of_no_field<'t>(last: Named<'t>, name: Named<'t>) -> Option<Wrong<'t>> {
 }
 
 /// Where a reference ends, if that does not fit its use.
-fn of_end<'t>(text: &'t [u8], how: Use, steps: &[Shape<'_>], end: End) -> Option<Wrong<'t>> {
+fn of_end<'t>(
+    text: &'t [u8],
+    how: Use,
+    steps: &[Shape<'_>],
+    end: ReferenceEnd,
+) -> Option<Wrong<'t>> {
     match end {
-        End::Form(form) => {
+        ReferenceEnd::Form(form) => {
             let last = name_at(text, steps, steps.len().saturating_sub(1));
             of_last(how, last, form)
         }
-        End::NoFields(number) => {
+        ReferenceEnd::NoFields(number) => {
             let last = name_at(text, steps, number.saturating_sub(1));
             of_no_field(last, name_at(text, steps, number))
         }
@@ -78,9 +83,9 @@ fn of_end<'t>(text: &'t [u8], how: Use, steps: &[Shape<'_>], end: End) -> Option
 }
 
 /// Whether a reference asks behind an array how many elements it has, as if that were a field.
-fn asks_length(text: &[u8], steps: &[Shape<'_>], end: End) -> bool {
+fn asks_length(text: &[u8], steps: &[Shape<'_>], end: ReferenceEnd) -> bool {
     match end {
-        End::NoFields(number) => {
+        ReferenceEnd::NoFields(number) => {
             matches!(
                 foreign_word(name_at(text, steps, number).name),
                 Some(Foreign::Length)
@@ -95,7 +100,7 @@ fn of_array<'t>(
     text: &'t [u8],
     how: Use,
     steps: &[Shape<'_>],
-    end: End,
+    end: ReferenceEnd,
     number: usize,
 ) -> Option<Wrong<'t>> {
     let name = name_at(text, steps, number);
@@ -107,8 +112,8 @@ fn of_array<'t>(
 }
 
 /// Of an array without an index: of channels, or of something else where a channel is wanted.
-fn of_missing<'t>(how: Use, array: Named<'t>, end: End) -> WrongCause<'t> {
-    let is_channel = matches!(end, End::Form(Form::Plain(Scalar::Chan)));
+fn of_missing<'t>(how: Use, array: Named<'t>, end: ReferenceEnd) -> WrongCause<'t> {
+    let is_channel = matches!(end, ReferenceEnd::Form(Form::Plain(Scalar::Chan)));
     match how {
         Use::Channel if !is_channel => WrongCause::ArrayForChannel(array.name),
         _ => WrongCause::ArrayWithoutIndex(array.name),
@@ -116,7 +121,12 @@ fn of_missing<'t>(how: Use, array: Named<'t>, end: End) -> WrongCause<'t> {
 }
 
 /// Of a variable and its fields.
-fn of_walk<'t>(text: &'t [u8], how: Use, steps: &[Shape<'_>], walk: Walk) -> Option<Wrong<'t>> {
+fn of_walk<'t>(
+    text: &'t [u8],
+    how: Use,
+    steps: &[Shape<'_>],
+    walk: TracedReference,
+) -> Option<Wrong<'t>> {
     match walk.index {
         Index::Missing(number) => of_array(text, how, steps, walk.end, number),
         Index::Extra(number) => {
@@ -176,18 +186,18 @@ fn of_meaning<'t>(
     before: &[Mark<'_>],
     used: Used,
     steps: &[Shape<'_>],
-    meaning: Matter,
+    meaning: Saying,
 ) -> Result<Option<Wrong<'t>>, AllocError> {
     let name = name_at(text, steps, 0);
     match meaning {
-        Matter::Variable | Matter::Field => {
+        Saying::Variable | Saying::Field => {
             if let Use::Preset = used.how {
                 Ok(of_name(name, WrongCause::Preset(name.name)))
             } else {
                 of_variable(alloc, text, before, used, steps)
             }
         }
-        Matter::Constant => Ok(of_constant(used.how, name, is_plain(steps))),
+        Saying::Constant => Ok(of_constant(used.how, name, is_plain(steps))),
         _ => Ok(None),
     }
 }
@@ -209,12 +219,12 @@ fn of_use<'t>(
     of_meaning(alloc, text, front(marks, at), used, steps, meaning)
 }
 
-fn sort_of(meaning: Matter) -> Sort {
+fn sort_of(meaning: Saying) -> NameSort {
     match meaning {
-        Matter::Constant => Sort::Constant,
-        Matter::Typedef(_) => Sort::Typedef,
-        Matter::Proctype(_) => Sort::Proctype,
-        _ => Sort::Variable,
+        Saying::Constant => NameSort::Constant,
+        Saying::Typedef(_) => NameSort::Typedef,
+        Saying::Proctype(_) => NameSort::Proctype,
+        _ => NameSort::Variable,
     }
 }
 
@@ -226,9 +236,9 @@ fn declaration_of<'t>(
     owner: usize,
     name: Named<'t>,
 ) -> Named<'t> {
-    match first_name(text, front(marks, at), Sought::Declared(owner), name.name) {
+    match first_name(text, front(marks, at), Lookup::Declared(owner), name.name) {
         Some(own) => own,
-        None => match first_name(text, marks, Sought::Declared(0), name.name) {
+        None => match first_name(text, marks, Lookup::Declared(0), name.name) {
             Some(global) => global,
             None => name,
         },
@@ -236,18 +246,18 @@ fn declaration_of<'t>(
 }
 
 /// Of a size, a capacity or an initialiser that is wrong, or a channel behind another type, of this name.
-fn of_declared<'t>(tokens: &[Token<'_>], name: Named<'t>, matter: Matter) -> Wrong<'t> {
+fn of_declared<'t>(tokens: &[Token<'_>], name: Named<'t>, matter: Saying) -> Wrong<'t> {
     match matter {
-        Matter::Size(_) => Wrong {
-            place: place_in(tokens, name, Part::Size),
+        Saying::Size(_) => Wrong {
+            place: place_in(tokens, name, DeclarationPart::Size),
             cause: WrongCause::OpenSize(name.name),
         },
-        Matter::Preset => Wrong {
-            place: place_in(tokens, name, Part::Initialiser),
+        Saying::Preset => Wrong {
+            place: place_in(tokens, name, DeclarationPart::Initialiser),
             cause: WrongCause::OpenPreset(name.name),
         },
-        Matter::Channel(Constant::Open, _) => Wrong {
-            place: place_in(tokens, name, Part::Capacity),
+        Saying::Channel(Constant::Open, _) => Wrong {
+            place: place_in(tokens, name, DeclarationPart::Capacity),
             cause: WrongCause::OpenCapacity(name.name),
         },
         _ => Wrong {
@@ -263,11 +273,11 @@ fn of_value<'t>(
     tokens: &[Token<'_>],
     marks: &[Mark<'_>],
     at: usize,
-    matter: Matter,
+    matter: Saying,
 ) -> Option<Wrong<'t>> {
-    if let Matter::Starts(_) = matter {
+    if let Saying::Starts(_) = matter {
         let name = last_proctype(text, front(marks, at))?;
-        let place = place_in(tokens, name, Part::Count);
+        let place = place_in(tokens, name, DeclarationPart::Count);
         let cause = WrongCause::OpenCount(name.name);
         return Some(Wrong { place, cause });
     }
@@ -279,7 +289,7 @@ fn of_value<'t>(
 #[derive(Clone, Copy)]
 struct Otherwise<'t> {
     first: Named<'t>,
-    sort: Sort,
+    sort: NameSort,
 }
 
 fn mistaken<'t>(
@@ -306,15 +316,15 @@ fn wrong_at<'t>(
     let owner = sign.owner;
     let name = sign.name;
     match sign.matter {
-        Matter::Reference(how) => {
+        Saying::Reference(how) => {
             let steps = steps_at(marks, at);
             of_use(alloc, text, marks, at, Used { owner, how }, steps)
         }
-        Matter::Wanted => {
+        Saying::Wanted => {
             let is = mistaken(text, marks, at, owner, name);
             Ok(of_name(name, WrongCause::NoTypedef(is.first, is.sort)))
         }
-        Matter::Run(_) => {
+        Saying::Run(_) => {
             let is = mistaken(text, marks, at, owner, name);
             Ok(of_name(name, WrongCause::NoProctype(is.first, is.sort)))
         }
@@ -342,7 +352,7 @@ fn declared_before<'t>(
 fn declared_at(text: &[u8], marks: &[Mark<'_>], at: usize) -> Option<usize> {
     let sign = sign_at(text, marks, at);
     match sign.matter {
-        Matter::Reference(_) => {
+        Saying::Reference(_) => {
             let steps = steps_at(marks, at);
             if steps.len() == 1 {
                 declared_before(text, marks, at, sign.owner, name_at(text, steps, 0))
@@ -356,7 +366,7 @@ fn declared_at(text: &[u8], marks: &[Mark<'_>], at: usize) -> Option<usize> {
 
 fn told(wrong: Option<Wrong<'_>>, first: Option<usize>) -> Finding<'_> {
     match wrong {
-        Some(wrong) => at_place(wrong.place, Cause::Wrong(wrong.cause, first)),
+        Some(wrong) => at_place(wrong.place, Reason::Wrong(wrong.cause, first)),
         None => untold(),
     }
 }

@@ -1,2 +1,3 @@
+pub mod Rounds
 pub mod Rows
 pub mod Same

@@ -6,8 +6,8 @@ use Rattle.pml_program.specs.declared.program.Seq.{Seq, Seq', out-Seq, Row_of-St
 use Rattle.pml_program.specs.declared.program.Basic.{Basic, If, If', Do, Do', Row_of-Seq, end_of-Seq, more_of-Seq, items-the_row-Seq, items_hidden-the_row-Seq-0}
 use Rattle.promela_process.specs.Control.{steps}
 use Rattle.pml_control.proofs.Rows.{steps_out}
-use Rattle.explain_control.specs.declared.site.Matter.TheVariants as matter
-use Rattle.explain_control.specs.declared.site.Site.{Site}
+use Rattle.explain_control.specs.declared.site.PostMatter.TheVariants as matter
+use Rattle.explain_control.specs.declared.site.PostSite.{PostSite}
 use Rattle.explain_control.specs.Sites.{site, bare, first_line, sites_in, sites_arm, sites_row, sites_options, sites_list, sites_arms, last_of}
 
 pub row_list : {n : _} (last : ℕ) (row : Row_of-Stmt n) → sites_row last row ≡ sites_list last (items-the_row-Stmt _ row)
@@ -37,10 +37,10 @@ in_do : (o : Option ℕ) (last : ℕ) (ss : List Seq) → sites_in o last (Do ss
 in_do o last ss =
     ap (λ ns. bare ∷ (ns ++ site o matter.Other ∷ [])) (options_list (last + 1) (row_of (Do ss)).1 ∙ ap (sites_arms (last + 1)) (items_hidden-the_row-Seq-0 ss))
 
-last_more : (old : List Site) (x : Site) → 0 < length old → last_of (old ++ x ∷ []) ≡ last_of old + 1
+last_more : (old : List PostSite) (x : PostSite) → 0 < length old → last_of (old ++ x ∷ []) ≡ last_of old + 1
 last_more old x h = omega (arith, h, length-append old (x ∷ []))
 
-module _ (o : Option ℕ) (basic : Basic) (ss xs : List Seq) (old mid new : List Site) (all : xs ≡ ss) (end : new ≡ mid ++ site o matter.Other ∷ []) where
+module _ (o : Option ℕ) (basic : Basic) (ss xs : List Seq) (old mid new : List PostSite) (all : xs ≡ ss) (end : new ≡ mid ++ site o matter.Other ∷ []) where
   pub if_done : basic ≡ If ss → mid ≡ old ++ sites_arms (last_of old) xs → new ≡ old ++ sites_in o (last_of old) basic
   if_done e h =
       end ∙ ap (λ ns. ns ++ site o matter.Other ∷ []) h
@@ -49,7 +49,7 @@ module _ (o : Option ℕ) (basic : Basic) (ss xs : List Seq) (old mid new : List
       ∙ ap (λ ns. old ++ ns) (sym (in_if o (last_of old) ss))
       ∙ ap (λ b. old ++ sites_in o (last_of old) b) (sym e)
 
-  pub do_done : (first : List Site) → 0 < length old → first ≡ old ++ bare ∷ [] → basic ≡ Do ss → mid ≡ first ++ sites_arms (last_of first) xs → new ≡ old ++ sites_in o (last_of old) basic
+  pub do_done : (first : List PostSite) → 0 < length old → first ≡ old ++ bare ∷ [] → basic ≡ Do ss → mid ≡ first ++ sites_arms (last_of first) xs → new ≡ old ++ sites_in o (last_of old) basic
   do_done first some f e h =
       let n : last_of first ≡ last_of old + 1 = ap last_of f ∙ last_more old bare some in
       end ∙ ap (λ ns. ns ++ site o matter.Other ∷ []) h
@@ -61,7 +61,7 @@ module _ (o : Option ℕ) (basic : Basic) (ss xs : List Seq) (old mid new : List
       ∙ ap (λ ns. old ++ ns) (sym (in_do o (last_of old) ss))
       ∙ ap (λ b. old ++ sites_in o (last_of old) b) (sym e)
 
-pub arm_done : (s : Seq) (old mid new : List Site) (x : Site) (stmts : List Stmt) → 0 < length old → x ≡ bare → mid ≡ old ++ x ∷ [] → stmts ≡ (out-Seq s).steps → new ≡ mid ++ sites_list (last_of mid) stmts → new ≡ old ++ sites_arm (last_of old) s
+pub arm_done : (s : Seq) (old mid new : List PostSite) (x : PostSite) (stmts : List Stmt) → 0 < length old → x ≡ bare → mid ≡ old ++ x ∷ [] → stmts ≡ (out-Seq s).steps → new ≡ mid ++ sites_list (last_of mid) stmts → new ≡ old ++ sites_arm (last_of old) s
 arm_done s old mid new x stmts some is f all h =
     let n : last_of mid ≡ last_of old + 1 = ap last_of f ∙ last_more old x some in
     h ∙ ap (λ k. mid ++ sites_list k stmts) n

@@ -12,15 +12,15 @@ use Rattle.pml_control.specs.declared.ends.Ending.{Ending}
 use Rattle.pml_control.specs.declared.ends.Ending.TheVariants as ending
 use Rattle.pml_control.specs.Ends.{ending_of, AreEnds}
 use Rattle.pml_control.specs.Graph.{Spot, nexts, stay, pass, else_of, posts_in, posts_arm, posts_row, posts_options, posts_list, posts_of, spot_of, bad_step, bad_end as post_end}
-use Rattle.explain_control.specs.declared.site.Matter.{Matter}
-use Rattle.explain_control.specs.declared.site.Matter.TheVariants as matter
-use Rattle.explain_control.specs.declared.site.Site.{Site}
+use Rattle.explain_control.specs.declared.site.PostMatter.{PostMatter}
+use Rattle.explain_control.specs.declared.site.PostMatter.TheVariants as matter
+use Rattle.explain_control.specs.declared.site.PostSite.{PostSite}
 use Rattle.explain_control.specs.declared.body.BadFirstPoint.{BadFirstPoint}
 use Rattle.explain_control.specs.declared.body.Circle.{Circle}
 use Rattle.explain_control.specs.Sites.{site, bare, first_line, matter_of, sites_in, sites_arm, sites_row, sites_options, sites_list, sites_of}
-use Rattle.explain_control.specs.Blamed.{is_else, site_at, bad_point, bad_matter, is_bad, is_bad_step, stays_at, NoneIsBad, IsFirstBad, IsStep, NoStepIsBad, IsBlamedStep, Returns, IsBlamedCircle}
+use Rattle.explain_control.specs.Blamed.{is_else, site_at, bad_point, bad_matter, is_bad, is_bad_step, stays_at, NoneIsBad, IsFirstBad, IsStep, NoStepIsBad, IsBlamedStep, IsRound, IsBlamedCircle}
 
-abbrev step_of : Matter → Option (ℕ × ℕ)
+abbrev step_of : PostMatter → Option (ℕ × ℕ)
 step_of (matter.DStep least first) = Some (least, first)
 step_of m = None
 
@@ -31,7 +31,7 @@ Asked = Bool × Option (ℕ × ℕ)
 abbrev of_post : Spot → Asked
 of_post n = (n.is_else, n.d_step)
 
-abbrev of_site : Site → Asked
+abbrev of_site : PostSite → Asked
 of_site s = (is_else s.matter, step_of s.matter)
 
 plain : (a : Action) (o : Option ℕ) (ls : List Word) → of_post (stay ls (else_of a)) ≡ of_site (site o (matter_of a))
@@ -48,21 +48,21 @@ plain (action.Printm e) o ls = refl
 plain (action.Assert e) o ls = refl
 plain (action.Holds e) o ls = refl
 
-abbrev Agree : List Spot → List Site → Type 0
+abbrev Agree : List Spot → List PostSite → Type 0
 Agree ns ss = map of_post ns ≡ map of_site ss
 
-long : (ns : List Spot) (ss : List Site) → Agree ns ss → length ns ≡ length ss
+long : (ns : List Spot) (ss : List PostSite) → Agree ns ss → length ns ≡ length ss
 long ns ss e = sym (length-map ns of_post) ∙ ap length e ∙ length-map ss of_site
 
-join : (ns ms : List Spot) (ss ts : List Site) → Agree ns ss → Agree ms ts → Agree (ns ++ ms) (ss ++ ts)
+join : (ns ms : List Spot) (ss ts : List PostSite) → Agree ns ss → Agree ms ts → Agree (ns ++ ms) (ss ++ ts)
 join ns ms ss ts e f =
     map-append of_post ns ms ∙ ap (λ xs. xs ++ map of_post ms) e ∙ ap (λ xs. map of_site ss ++ xs) f ∙ sym (map-append of_site ss ts)
 
 -- a list and one behind it, both by how long the first is
-join_by : (last : ℕ) (ns : List Spot) (ss : List Site) (f : ℕ → List Spot) (g : ℕ → List Site) → Agree ns ss → ((k : ℕ) → Agree (f k) (g k)) → Agree (ns ++ f (last + length ns)) (ss ++ g (last + length ss))
+join_by : (last : ℕ) (ns : List Spot) (ss : List PostSite) (f : ℕ → List Spot) (g : ℕ → List PostSite) → Agree ns ss → ((k : ℕ) → Agree (f k) (g k)) → Agree (ns ++ f (last + length ns)) (ss ++ g (last + length ss))
 join_by last ns ss f g e h = join ns (f (last + length ns)) ss (g (last + length ss)) e (h (last + length ns) ∙ ap (λ k. map of_site (g (last + k))) (long ns ss e))
 
-closed : (ns : List Spot) (ss : List Site) (n : Spot) (s : Site) → Agree ns ss → of_post n ≡ of_site s → Agree (ns ++ n ∷ []) (ss ++ s ∷ [])
+closed : (ns : List Spot) (ss : List PostSite) (n : Spot) (s : PostSite) → Agree ns ss → of_post n ≡ of_site s → Agree (ns ++ n ∷ []) (ss ++ s ∷ [])
 closed ns ss n s e h = join ns (n ∷ []) ss (s ∷ []) e (ap (λ x. x ∷ []) h)
 
 mutual
@@ -126,7 +126,7 @@ end_same b least first (ending.Stays end) = ap (λ x. nat_lt end least || (nat_l
 end_same b least first ending.Circles = refl
 end_same b least first ending.Unseen = refl
 
-matter_same : (b : Seq) (es : List Ending) (m : Matter) → bad_step (posts_of b) es (step_of m) ≡ bad_matter (sites_of b) es m
+matter_same : (b : Seq) (es : List Ending) (m : PostMatter) → bad_step (posts_of b) es (step_of m) ≡ bad_matter (sites_of b) es m
 matter_same b es matter.Bare = refl
 matter_same b es matter.Other = refl
 matter_same b es matter.Else = refl
@@ -143,7 +143,7 @@ stays_is ending.Circles k h = absurd cc
 stays_is ending.Unseen k h = absurd cc
 
 -- ---- what the code finds on sites, of posts
-module _ (b : Seq) (ss : List Site) (es : List Ending) (is : ss ≡ sites_of b) (are : AreEnds (nexts (posts_of b)) es) where
+module _ (b : Seq) (ss : List PostSite) (es : List Ending) (is : ss ≡ sites_of b) (are : AreEnds (nexts (posts_of b)) es) where
   pub none_bad : NoneIsBad ss es → NoStepIsBad b
   none_bad h = record {
     ends = es;
@@ -169,10 +169,10 @@ module _ (b : Seq) (ss : List Site) (es : List Ending) (is : ss ≡ sites_of b) 
     marked = λ t. marked (sym says ∙ t) ∙ ap (λ xs. (site_at xs point).offset) is;
   }
 
-pub circled : (b : Seq) (ss : List Site) (ns : List (Option ℕ)) (k : ℕ) (x : Circle) → ss ≡ sites_of b → ns ≡ nexts (posts_of b) → Returns ns k → x.goto ≡ (site_at ss k).offset → IsBlamedCircle b x
+pub circled : (b : Seq) (ss : List PostSite) (ns : List (Option ℕ)) (k : ℕ) (x : Circle) → ss ≡ sites_of b → ns ≡ nexts (posts_of b) → IsRound ss ns k x.labels.items → x.goto ≡ (site_at ss k).offset → IsBlamedCircle b x
 circled b ss ns k x is same h e = record {
   post = k;
-  returns = subst (λ (ns : List (Option ℕ)). Returns ns k) same h;
+  round = subst (λ (ns : List (Option ℕ)). IsRound (sites_of b) ns k x.labels.items) same (subst (λ (xs : List PostSite). IsRound xs ns k x.labels.items) is h);
   goto = e ∙ ap (λ xs. (site_at xs k).offset) is;
 }
 

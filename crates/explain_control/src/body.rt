@@ -1,12 +1,12 @@
 //! What is told of a body.
 
-ghost use Rattle.std.specs.Prelude.{true, ◌≡◌, ◌++◌, IfOk, OnOk, MatchOption, IfSome};
+ghost use Rattle.std.specs.Prelude.{true, ◌≡◌, ◌++◌, IfOk, OnOk, MatchOption};
 ghost use Rattle.explain_control.specs.Sites.{sites_of};
-ghost use Rattle.explain_control.specs.Blamed.{site_at, is_else, breaks_in, NoStepIsBad, IsBlamedStep, IsBlamedCircle};
+ghost use Rattle.explain_control.specs.Blamed.{site_at, is_else, breaks_in, NoStepIsBad, IsBlamedStep, NoCircle, IsBlamedCircle};
 
 use crate::circle::{first_circling, labels_of};
 use crate::first_point::{BadStep, first_bad, first_leap, is_else};
-use crate::site::{Label, Matter, Site};
+use crate::site::{Label, PostMatter, PostSite};
 use crate::walk::sites;
 use pml_control::findings::examine;
 use pml_program::program::Seq;
@@ -33,7 +33,7 @@ pub struct Circle {
 }
 
 /// How many bytes of the text stand before the statement at a post.
-fn offset_at(sites: &[Site], post: usize) -> Option<u32>
+fn offset_at(sites: &[PostSite], post: usize) -> Option<u32>
     ensures { result ≡ (site_at sites.now post).offset }
 {
     match sites.get(post) {
@@ -54,14 +54,14 @@ pub fn breaks_of(
     add_breaks(&sites, breaks)
 }
 
-fn add_breaks(sites: &[Site], breaks: &mut Vec<Option<u32>>) -> Result<(), AllocError>
+fn add_breaks(sites: &[PostSite], breaks: &mut Vec<Option<u32>>) -> Result<(), AllocError>
     ensures { OnOk result (breaks.new.items ≡ breaks.old.items ++ breaks_in sites.now) }
 {
     let mut left = sites.len();
     while left > 0 {
         left -= 1;
         let site = sites[left];
-        if let Matter::Break = site.matter {
+        if let PostMatter::Break = site.matter {
             breaks.push(site.offset)?;
         }
     }
@@ -69,7 +69,7 @@ fn add_breaks(sites: &[Site], breaks: &mut Vec<Option<u32>>) -> Result<(), Alloc
 }
 
 /// The `else`, or the goto or `break` that leads out.
-fn offender(sites: &[Site], next: &[Option<usize>], bad: BadStep) -> Option<u32>
+fn offender(sites: &[PostSite], next: &[Option<usize>], bad: BadStep) -> Option<u32>
     ensures { is_else (site_at sites.now bad.point).matter ≡ true → result ≡ (site_at sites.now bad.point).offset }
 {
     if is_else(sites, bad.point) {
@@ -99,11 +99,11 @@ pub fn first_point_of(alloc: Global, body: &Seq<'_>) -> Result<Option<BadFirstPo
 
 /// The circle that the first position of a body from which settling never ends comes to.
 pub fn circle_of(alloc: Global, body: &Seq<'_>) -> Result<Option<Circle>, AllocError>
-    ensures { IfOk result (λ o. IfSome o (λ c. IsBlamedCircle body.now c)) }
+    ensures { IfOk result (λ o. MatchOption o (NoCircle body.now) (λ c. IsBlamedCircle body.now c)) }
 {
     let plan = examine(alloc, body)?;
     let sites = sites(alloc, body)?;
-    let Some(goto) = first_circling(&sites, plan.next(), plan.ends()) else {
+    let Some(goto) = first_circling(alloc, &sites, plan.next(), plan.ends())? else {
         return Ok(None);
     };
     Ok(Some(Circle {

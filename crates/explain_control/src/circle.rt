@@ -1,11 +1,11 @@
 //! The circle of gotos that the first position in the text from which settling never ends comes to.
 
-ghost use Rattle.std.specs.Prelude.{◌≡◌, ◌<◌, ◌+◌, ℕ, true, suc, length, IfSome};
-ghost use Rattle.std.specs.Bool.{OnTrue};
-ghost use Rattle.pml_control.specs.Ends.{next_of};
-ghost use Rattle.explain_control.specs.Blamed.{Returns};
+ghost use Rattle.std.specs.Prelude.{◌≡◌, ◌⊎◌, ◌++◌, [], ◌∷◌, true, slice_index_or, IfOk, OnOk, MatchOption};
+ghost use Rattle.pml_control.specs.declared.ends.Ending.TheVariants as ending;
+ghost use Rattle.pml_control.specs.Ends.{next_of, ending_of, Circling, AreEnds};
+ghost use Rattle.explain_control.specs.Blamed.{site_at, own_label, Returns, NoneCircles, IsRound};
 
-use crate::site::{Label, Matter, Site};
+use crate::site::{Label, PostMatter, PostSite};
 use pml_control::ends::Ending;
 use std::alloc::{AllocError, Global};
 
@@ -19,27 +19,10 @@ fn next_of(next: &[Option<usize>], post: usize) -> Option<usize>
     }
 }
 
-/// Whether a post is led back to.
-fn returns(next: &[Option<usize>], post: usize) -> bool
-    ensures { OnTrue result (Returns next.now post) }
-{
-    let mut here = post;
-    for _ in next {
-        match next_of(next, here) {
-            Some(there) => {
-                if there == post {
-                    return true;
-                }
-                here = there;
-            }
-            None => return false,
-        }
-    }
-    false
-}
-
 /// The greatest post from which settling never ends.
-fn last_circling(ends: &[Ending]) -> Option<usize> {
+fn last_circling(ends: &[Ending]) -> Option<usize>
+    ensures { MatchOption result (NoneCircles ends.now) (λ post. ending_of ends.now post ≡ ending.Circles) }
+{
     let mut left = ends.len();
     while left > 0 {
         left -= 1;
@@ -50,37 +33,67 @@ fn last_circling(ends: &[Ending]) -> Option<usize> {
     None
 }
 
-/// The post that a post leads to by as many descents as there are posts: it stands in the circle that the post comes to.
-fn far_from(next: &[Option<usize>], from: usize) -> usize {
-    let mut here = from;
-    for _ in next {
-        match next_of(next, here) {
-            Some(there) => here = there,
-            None => return here,
-        }
+/// Whether a post was passed, or is none.
+fn is_passed(passed: &[bool], post: usize) -> bool
+    ensures { result ≡ slice_index_or passed.now post true }
+{
+    match passed.get(post) {
+        Some(is) => *is,
+        None => true,
     }
-    here
+}
+
+/// A post of the circle that a post comes to: the first that is come to again.
+fn post_in_circle(alloc: Global, next: &[Option<usize>], from: usize) -> Result<usize, AllocError>
+    requires { Circling next.now from }
+    ensures { IfOk result (Returns next.now) }
+{
+    let mut passed = Vec::with_capacity(alloc, next.len())?;
+    passed.resize(next.len(), false)?;
+    let mut here = from;
+    while let Some(there) = next_of(next, here) {
+        if is_passed(&passed, there) {
+            return Ok(there);
+        }
+        passed[there] = true;
+        here = there;
+    }
+    Ok(here)
 }
 
 /// The label that a goto at a post names.
-fn label_at(sites: &[Site], post: usize) -> Option<Label> {
+fn label_at(sites: &[PostSite], post: usize) -> Option<Label>
+    ensures { MatchOption result (own_label (site_at sites.now post).matter ≡ []) (λ label. own_label (site_at sites.now post).matter ≡ label ∷ []) }
+{
     match sites.get(post) {
         Some(site) => match site.matter {
-            Matter::Goto(label) => Some(label),
+            PostMatter::Goto(label) => Some(label),
             _ => None,
         },
         None => None,
     }
 }
 
+/// A post, where it is a goto and the other is none, or one that stands behind it in the text; else the other.
+fn later_goto(sites: &[PostSite], post: usize, other: usize) -> usize
+    ensures { (result ≡ post) ⊎ (result ≡ other) }
+{
+    if label_at(sites, post).is_some() && (post > other || label_at(sites, other).is_none()) {
+        post
+    } else {
+        other
+    }
+}
+
 /// The first goto in the text of the circle that a post stands in: the one with the greatest post.
-fn first_goto(sites: &[Site], next: &[Option<usize>], from: usize) -> usize {
+fn first_goto(sites: &[PostSite], next: &[Option<usize>], from: usize) -> usize
+    requires { Returns next.now from }
+    ensures { Returns next.now result }
+{
     let mut here = from;
     let mut most = from;
     for _ in next {
-        if label_at(sites, here).is_some() && (here > most || label_at(sites, most).is_none()) {
-            most = here;
-        }
+        most = later_goto(sites, here, most);
         match next_of(next, here) {
             Some(there) if there != from => here = there,
             _ => return most,
@@ -90,35 +103,53 @@ fn first_goto(sites: &[Site], next: &[Option<usize>], from: usize) -> usize {
 }
 
 /// The first goto of the circle that the first position in the text from which settling never ends comes to.
-pub fn first_circling(sites: &[Site], next: &[Option<usize>], ends: &[Ending]) -> Option<usize>
-    ensures { IfSome result (Returns next.now) }
+pub fn first_circling(
+    alloc: Global,
+    sites: &[PostSite],
+    next: &[Option<usize>],
+    ends: &[Ending],
+) -> Result<Option<usize>, AllocError>
+    requires { AreEnds next.now ends.now }
+    ensures { IfOk result (λ post. MatchOption post (NoneCircles ends.now) (Returns next.now)) }
 {
-    let start = last_circling(ends)?;
-    let goto = first_goto(sites, next, far_from(next, start));
-    if returns(next, goto) {
-        Some(goto)
-    } else {
-        None
-    }
+    let Some(start) = last_circling(ends) else {
+        return Ok(None);
+    };
+    let post = post_in_circle(alloc, next, start)?;
+    Ok(Some(first_goto(sites, next, post)))
 }
 
-/// The labels that the gotos of a circle name, from this one on.
+/// Adds the label that a goto at a post names.
+fn add_label(sites: &[PostSite], post: usize, labels: &mut Vec<Label>) -> Result<(), AllocError>
+    ensures { OnOk result (labels.new.items ≡ labels.old.items ++ own_label (site_at sites.now post).matter) }
+{
+    if let Some(label) = label_at(sites, post) {
+        labels.push(label)?;
+    }
+    Ok(())
+}
+
+/// The labels that the gotos of a circle name, from a post of it on.
 pub fn labels_of(
     alloc: Global,
-    sites: &[Site],
+    sites: &[PostSite],
     next: &[Option<usize>],
-    goto: usize,
-) -> Result<Vec<Label>, AllocError> {
+    post: usize,
+) -> Result<Vec<Label>, AllocError>
+    requires { Returns next.now post }
+    ensures { IfOk result (λ labels. IsRound sites.now next.now post labels.items) }
+{
     let mut labels = Vec::new(alloc);
-    let mut here = goto;
+    let mut here = post;
     for _ in next {
-        if let Some(label) = label_at(sites, here) {
-            labels.push(label)?;
+        add_label(sites, here, &mut labels)?;
+        let Some(there) = next_of(next, here) else {
+            return Ok(labels);
+        };
+        if there == post {
+            return Ok(labels);
         }
-        match next_of(next, here) {
-            Some(there) if there != goto => here = there,
-            _ => return Ok(labels),
-        }
+        here = there;
     }
     Ok(labels)
 }

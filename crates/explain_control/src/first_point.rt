@@ -3,7 +3,7 @@
 ghost use Rattle.std.specs.Prelude.{◌≡◌, ◌≤◌, ◌<◌, ◌+◌, true, false, MatchOption, ℕ, length, IfSome};
 ghost use Rattle.explain_control.specs.Blamed.{site_at, is_else, end_of, bad_end, is_bad, IsBadStepAt, IsFirstBadStep, NoneIsBad, is_leap};
 
-use crate::site::{Matter, Site};
+use crate::site::{PostMatter, PostSite};
 use pml_control::ends::Ending;
 
 /// A d_step with a bad first point: its post, that of its first statement, and the one where settling ends from there.
@@ -15,24 +15,24 @@ pub struct BadStep {
 }
 
 /// What stands at a post, the end of an arm where there is none.
-fn matter_at(sites: &[Site], post: usize) -> Matter
+fn matter_at(sites: &[PostSite], post: usize) -> PostMatter
     ensures { result ≡ (site_at sites.now post).matter }
 {
     match sites.get(post) {
         Some(site) => site.matter,
-        None => Matter::Bare,
+        None => PostMatter::Bare,
     }
 }
 
 /// Whether a post is an `else`.
-pub fn is_else(sites: &[Site], post: usize) -> bool
+pub fn is_else(sites: &[PostSite], post: usize) -> bool
     ensures { result ≡ is_else (site_at sites.now post).matter }
 {
-    matches!(matter_at(sites, post), Matter::Else)
+    matches!(matter_at(sites, post), PostMatter::Else)
 }
 
 /// Whether settling from the first statement of a d_step with these posts ends where it may not.
-fn bad_end(sites: &[Site], least: usize, first: usize, end: usize) -> bool
+fn bad_end(sites: &[PostSite], least: usize, first: usize, end: usize) -> bool
     ensures { result ≡ bad_end sites.now least first end }
 {
     end < least || first < end || is_else(sites, end)
@@ -49,11 +49,11 @@ fn end_of(ends: &[Ending], post: usize) -> Option<usize>
 }
 
 /// The d_step at a post, if it is one with a bad first point.
-fn bad_at(sites: &[Site], ends: &[Ending], step: usize) -> Option<BadStep>
+fn bad_at(sites: &[PostSite], ends: &[Ending], step: usize) -> Option<BadStep>
     ensures { MatchOption result (is_bad sites.now ends.now step ≡ false)
         (IsBadStepAt sites.now ends.now step) }
 {
-    let Matter::DStep(least, first) = matter_at(sites, step) else {
+    let PostMatter::DStep(least, first) = matter_at(sites, step) else {
         return None;
     };
     let Some(point) = end_of(ends, first) else {
@@ -67,7 +67,7 @@ fn bad_at(sites: &[Site], ends: &[Ending], step: usize) -> Option<BadStep>
 }
 
 /// The first d_step in the text with a bad first point: the one with the greatest post. `ends` are the ends of the chains of all posts.
-pub fn first_bad(sites: &[Site], ends: &[Ending]) -> Option<BadStep>
+pub fn first_bad(sites: &[PostSite], ends: &[Ending]) -> Option<BadStep>
     ensures { MatchOption result (NoneIsBad sites.now ends.now) (IsFirstBadStep sites.now ends.now) }
 {
     let mut left = sites.len();
@@ -82,14 +82,17 @@ pub fn first_bad(sites: &[Site], ends: &[Ending]) -> Option<BadStep>
 }
 
 /// Whether a post is a goto or a `break`.
-fn is_leap(sites: &[Site], post: usize) -> bool
+fn is_leap(sites: &[PostSite], post: usize) -> bool
     ensures { result ≡ is_leap (site_at sites.now post).matter }
 {
-    matches!(matter_at(sites, post), Matter::Goto(_) | Matter::Break)
+    matches!(
+        matter_at(sites, post),
+        PostMatter::Goto(_) | PostMatter::Break
+    )
 }
 
 /// The first goto or `break` that settling comes to from a post.
-pub fn first_leap(sites: &[Site], next: &[Option<usize>], from: usize) -> Option<usize>
+pub fn first_leap(sites: &[PostSite], next: &[Option<usize>], from: usize) -> Option<usize>
     ensures { IfSome result (λ post. is_leap (site_at sites.now post).matter ≡ true) }
 {
     let mut here = from;

@@ -1,9 +1,9 @@
 //! What is told of the bodies of proctypes.
 
-ghost use Rattle.std.specs.Prelude.{IfOk, IfSome, MatchOption, All, ◌≡◌};
+ghost use Rattle.std.specs.Prelude.{IfOk, MatchOption, All, ◌≡◌};
 ghost use Rattle.std.specs.List.{flat_map};
 ghost use Rattle.explain_control.specs.Sites.{sites_of};
-ghost use Rattle.explain_control.specs.Blamed.{breaks_in, NoStepIsBad, IsBlamedStepIn, IsBlamedCircleIn};
+ghost use Rattle.explain_control.specs.Blamed.{breaks_in, NoStepIsBad, IsBlamedStepIn, NoCircle, IsBlamedCircleIn};
 
 use crate::body::{BadFirstPoint, Circle, breaks_of, circle_of, first_point_of};
 use pml_program::program::Proctype;
@@ -37,7 +37,7 @@ pub fn first_bad_point(
 
 /// The circle that the first position from which settling never ends comes to.
 pub fn first_circle(alloc: Global, proctypes: &[Proctype<'_>]) -> Result<Option<Circle>, AllocError>
-    ensures { IfOk result (λ o. IfSome o (λ c. IsBlamedCircleIn proctypes.now c)) }
+    ensures { IfOk result (λ o. MatchOption o (All (λ p. NoCircle p.body) proctypes.now) (λ c. IsBlamedCircleIn proctypes.now c)) }
 {
     for proctype in proctypes {
         if let Some(circle) = circle_of(alloc, &proctype.body)? {

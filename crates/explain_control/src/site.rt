@@ -9,7 +9,7 @@ pub struct Label {
 
 /// What stands at a post, as far as it is told.
 #[derive(Clone, Copy)]
-pub enum Matter {
+pub enum PostMatter {
     /// The end of an arm.
     Bare,
     Other,
@@ -22,7 +22,7 @@ pub enum Matter {
 
 /// What stands at a post, and how many bytes of the text stand before its first token behind its labels. The end of an arm has no token.
 #[derive(Clone, Copy)]
-pub struct Site {
+pub struct PostSite {
     pub offset: Option<u32>,
-    pub matter: Matter,
+    pub matter: PostMatter,
 }

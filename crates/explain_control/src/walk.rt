@@ -3,13 +3,13 @@
 ghost use Rattle.std.specs.Prelude.{◌≡◌, ℕ, ◌<◌, ◌++◌, IfOk, OnOk, length};
 ghost use Rattle.explain_control.specs.Sites.{bare, goto, first_line, matter_of, last_of, sites_in, sites_closed, sites_arm, sites_list, sites_arms, sites_of};
 
-use crate::site::{Label, Matter, Site};
+use crate::site::{Label, PostMatter, PostSite};
 use pml_program::program::{Action, Basic, Seq, Stmt};
 use pml_token::token::Token;
 use std::alloc::{AllocError, Global};
 
 /// What stands at the posts of a body.
-pub fn sites(alloc: Global, body: &Seq<'_>) -> Result<Vec<Site>, AllocError>
+pub fn sites(alloc: Global, body: &Seq<'_>) -> Result<Vec<PostSite>, AllocError>
     ensures { IfOk result (λ sites. sites.items ≡ sites_of body.now) }
 {
     let mut sites = Vec::new(alloc);
@@ -19,17 +19,17 @@ pub fn sites(alloc: Global, body: &Seq<'_>) -> Result<Vec<Site>, AllocError>
 }
 
 /// The end of an arm.
-fn bare() -> Site
+fn bare() -> PostSite
     ensures { result ≡ bare }
 {
-    Site {
+    PostSite {
         offset: None,
-        matter: Matter::Bare,
+        matter: PostMatter::Bare,
     }
 }
 
 /// The number of the last post.
-fn last(sites: &[Site]) -> usize
+fn last(sites: &[PostSite]) -> usize
     requires { 0 < length sites.now }
     ensures { result ≡ last_of sites.now }
 {
@@ -47,20 +47,20 @@ fn first_line(tokens: &[Token<'_>]) -> Option<u32>
 }
 
 /// What a plain statement is.
-fn matter_of(action: &Action<'_>) -> Matter
+fn matter_of(action: &Action<'_>) -> PostMatter
     ensures { result ≡ matter_of action.now }
 {
     match action {
-        Action::Else => Matter::Else,
-        _ => Matter::Other,
+        Action::Else => PostMatter::Else,
+        _ => PostMatter::Other,
     }
 }
 
 /// The label that a goto names.
-fn label_of(label: &Token<'_>) -> Matter
+fn label_of(label: &Token<'_>) -> PostMatter
     ensures { result ≡ goto label.now }
 {
-    Matter::Goto(Label {
+    PostMatter::Goto(Label {
         offset: label.line(),
         length: label.text().len(),
     })
@@ -68,7 +68,7 @@ fn label_of(label: &Token<'_>) -> Matter
 
 /// What stands at the posts of statements, from the last to the first.
 #[cycle(sites)]
-fn add_steps(stmts: &[Stmt<'_>], sites: &mut Vec<Site>) -> Result<(), AllocError>
+fn add_steps(stmts: &[Stmt<'_>], sites: &mut Vec<PostSite>) -> Result<(), AllocError>
     requires { 0 < length sites.old.items }
     ensures { OnOk result (sites.new.items ≡ sites.old.items ++ sites_list (last_of sites.old.items) stmts.now) }
 {
@@ -87,7 +87,7 @@ fn add_steps(stmts: &[Stmt<'_>], sites: &mut Vec<Site>) -> Result<(), AllocError
 fn add_basic(
     offset: Option<u32>,
     basic: &Basic<'_>,
-    sites: &mut Vec<Site>,
+    sites: &mut Vec<PostSite>,
 ) -> Result<(), AllocError>
     requires { 0 < length sites.old.items }
     ensures { OnOk result (sites.new.items ≡ sites.old.items ++ sites_in offset (last_of sites.old.items) basic.now) }
@@ -96,37 +96,37 @@ fn add_basic(
     match basic {
         Basic::Plain(action) => {
             let matter = matter_of(action);
-            Ok(sites.push(Site { offset, matter })?)
+            Ok(sites.push(PostSite { offset, matter })?)
         }
         Basic::Goto(label) => {
             let matter = label_of(label);
-            Ok(sites.push(Site { offset, matter })?)
+            Ok(sites.push(PostSite { offset, matter })?)
         }
-        Basic::Break => Ok(sites.push(Site {
+        Basic::Break => Ok(sites.push(PostSite {
             offset,
-            matter: Matter::Break,
+            matter: PostMatter::Break,
         })?),
         Basic::If(options) => {
             add_options(options.as_slice(), sites)?;
-            Ok(sites.push(Site {
+            Ok(sites.push(PostSite {
                 offset,
-                matter: Matter::Other,
+                matter: PostMatter::Other,
             })?)
         }
         Basic::Do(options) => {
             sites.push(bare())?;
             add_options(options.as_slice(), sites)?;
-            Ok(sites.push(Site {
+            Ok(sites.push(PostSite {
                 offset,
-                matter: Matter::Other,
+                matter: PostMatter::Other,
             })?)
         }
         Basic::Block(body) => Ok(add_entered(offset, body, sites)?),
         Basic::Atomic(body) => Ok(add_entered(offset, body, sites)?),
         Basic::DStep(body) => {
             add_arm(body, sites)?;
-            let matter = Matter::DStep(after + 1, last(sites.as_slice()));
-            Ok(sites.push(Site { offset, matter })?)
+            let matter = PostMatter::DStep(after + 1, last(sites.as_slice()));
+            Ok(sites.push(PostSite { offset, matter })?)
         }
         Basic::Unless(main, escape) => {
             add_arm(escape, sites)?;
@@ -137,20 +137,24 @@ fn add_basic(
 
 /// The same of a statement that is entered at the first statement of its arm.
 #[cycle(sites)]
-fn add_entered(offset: Option<u32>, arm: &Seq<'_>, sites: &mut Vec<Site>) -> Result<(), AllocError>
+fn add_entered(
+    offset: Option<u32>,
+    arm: &Seq<'_>,
+    sites: &mut Vec<PostSite>,
+) -> Result<(), AllocError>
     requires { 0 < length sites.old.items }
     ensures { OnOk result (sites.new.items ≡ sites.old.items ++ sites_closed offset (last_of sites.old.items) arm.now) }
 {
     add_arm(arm, sites)?;
-    Ok(sites.push(Site {
+    Ok(sites.push(PostSite {
         offset,
-        matter: Matter::Other,
+        matter: PostMatter::Other,
     })?)
 }
 
 /// The same of options, from the last to the first.
 #[cycle(sites)]
-fn add_options(options: &[Seq<'_>], sites: &mut Vec<Site>) -> Result<(), AllocError>
+fn add_options(options: &[Seq<'_>], sites: &mut Vec<PostSite>) -> Result<(), AllocError>
     requires { 0 < length sites.old.items }
     ensures { OnOk result (sites.new.items ≡ sites.old.items ++ sites_arms (last_of sites.old.items) options.now) }
 {
@@ -164,7 +168,7 @@ fn add_options(options: &[Seq<'_>], sites: &mut Vec<Site>) -> Result<(), AllocEr
 
 /// The same of an arm.
 #[cycle(sites)]
-fn add_arm(seq: &Seq<'_>, sites: &mut Vec<Site>) -> Result<(), AllocError>
+fn add_arm(seq: &Seq<'_>, sites: &mut Vec<PostSite>) -> Result<(), AllocError>
     requires { 0 < length sites.old.items }
     ensures { OnOk result (sites.new.items ≡ sites.old.items ++ sites_arm (last_of sites.old.items) seq.now) }
 {

@@ -8,8 +8,8 @@ use Rattle.promela_text.specs.declared.misuse.Rule.{Rule}
 use Rattle.promela_text.specs.declared.misuse.Rule.TheVariants as rule
 use Rattle.promela_text.specs.declared.misuse.Misuse.{Misuse}
 use Rattle.explain_cause.specs.declared.cause.Segment.{Segment}
-use Rattle.explain_find.specs.declared.heads.Part.{Part}
-use Rattle.explain_find.specs.declared.heads.Part.TheVariants as part
+use Rattle.explain_find.specs.declared.heads.HeadPart.{HeadPart}
+use Rattle.explain_find.specs.declared.heads.HeadPart.TheVariants as part
 use Rattle.explain_find.specs.Tokens.{is_of}
 use Rattle.explain_find.specs.Heads.{head, opens_body, is_unwanted}
 
@@ -47,7 +47,7 @@ abbrev pub has_one_name : List Word → ℕ → ℕ → Bool
 has_one_name ts k d = is_defined ts k && nat_lt d k && bytes_eq (token_at ts k).text (token_at ts d).text
 
 -- what the head of a definition wants behind k others, where its name stands behind d others
-abbrev pub wanted_at : List Word → ℕ → ℕ → Option Part
+abbrev pub wanted_at : List Word → ℕ → ℕ → Option HeadPart
 wanted_at ts k d = head (take (k - d) (drop d ts)) part.Name
 
 -- the token behind k others is none that the head wants, or the head goes on to the end of the text

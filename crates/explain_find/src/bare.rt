@@ -2,22 +2,22 @@
 
 ghost use Rattle.std.specs.Prelude.{◌≡◌};
 
-use explain_cause::cause::{Cause, Finding, Named, Sort, UnknownCause};
+use explain_cause::cause::{Finding, NameSort, Named, Reason, UnknownCause};
 use explain_syntax::definition_of;
 use pml_token::token::{Kind, Token};
 
 /// The name that is declared nowhere, where a variable is wanted.
-fn lacking<'t>(cause: Cause<'t>) -> Option<&'t [u8]> {
+fn lacking<'t>(cause: Reason<'t>) -> Option<&'t [u8]> {
     match cause {
-        Cause::Unknown(UnknownCause::Nowhere(Sort::Variable, name, _)) => Some(name),
-        Cause::Unknown(UnknownCause::Foreign(name, _)) => Some(name),
-        Cause::Unknown(UnknownCause::Word(name, _)) => Some(name),
+        Reason::Unknown(UnknownCause::Nowhere(NameSort::Variable, name, _)) => Some(name),
+        Reason::Unknown(UnknownCause::Foreign(name, _)) => Some(name),
+        Reason::Unknown(UnknownCause::Word(name, _)) => Some(name),
         _ => None,
     }
 }
 
 /// Where an inline of that name is defined.
-fn inline_of<'t>(text: &'t [u8], tokens: &[Token<'_>], cause: Cause<'t>) -> Option<Named<'t>> {
+fn inline_of<'t>(text: &'t [u8], tokens: &[Token<'_>], cause: Reason<'t>) -> Option<Named<'t>> {
     definition_of(text, tokens, lacking(cause)?)
 }
 
@@ -50,12 +50,12 @@ fn is_statement(tokens: &[Token<'_>], offset: usize) -> bool {
 }
 
 /// What is told of a name that is declared nowhere and is a statement by itself.
-fn alone<'t>(tokens: &[Token<'_>], finding: Finding<'t>) -> Option<Cause<'t>> {
+fn alone<'t>(tokens: &[Token<'_>], finding: Finding<'t>) -> Option<Reason<'t>> {
     let place = finding.place?;
     match finding.cause {
-        Cause::Unknown(UnknownCause::Nowhere(Sort::Variable, name, None)) => {
+        Reason::Unknown(UnknownCause::Nowhere(NameSort::Variable, name, None)) => {
             if is_statement(tokens, place.offset) {
-                Some(Cause::Unknown(UnknownCause::Bare(name)))
+                Some(Reason::Unknown(UnknownCause::Bare(name)))
             } else {
                 None
             }
@@ -65,9 +65,9 @@ fn alone<'t>(tokens: &[Token<'_>], finding: Finding<'t>) -> Option<Cause<'t>> {
 }
 
 /// The same cause, or that a name is one of an inline, or a statement by itself.
-fn told<'t>(text: &'t [u8], tokens: &[Token<'_>], finding: Finding<'t>) -> Cause<'t> {
+fn told<'t>(text: &'t [u8], tokens: &[Token<'_>], finding: Finding<'t>) -> Reason<'t> {
     if let Some(inline) = inline_of(text, tokens, finding.cause) {
-        return Cause::Unknown(UnknownCause::Inline(inline));
+        return Reason::Unknown(UnknownCause::Inline(inline));
     }
     match alone(tokens, finding) {
         Some(cause) => cause,

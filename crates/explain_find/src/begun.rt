@@ -7,7 +7,7 @@ use std::alloc::{AllocError, Global};
 
 /// How many processes begin of an `active` proctype.
 #[derive(Clone, Copy)]
-pub enum Begun {
+pub enum ActiveProcesses {
     /// None but that of an `init`.
     None,
     One,
@@ -28,7 +28,7 @@ fn behind_active(tokens: &[Token<'_>], active: usize) -> usize {
 /// Adds the tokens, with other numbers of processes.
 fn add_begun<'t>(
     tokens: &[Token<'t>],
-    begun: Begun,
+    begun: ActiveProcesses,
     list: &mut Vec<Token<'t>>,
 ) -> Result<(), AllocError> {
     let mut free = 0usize;
@@ -37,7 +37,7 @@ fn add_begun<'t>(
         if is_active {
             free = behind_active(tokens, i);
         }
-        if free <= i || (is_active && matches!(begun, Begun::One)) {
+        if free <= i || (is_active && matches!(begun, ActiveProcesses::One)) {
             list.push(token.copied())?;
         }
     }
@@ -66,11 +66,11 @@ fn add_init(list: &mut Vec<Token<'_>>) -> Result<(), AllocError> {
 pub fn with_begun<'t>(
     alloc: Global,
     tokens: &[Token<'t>],
-    begun: Begun,
+    begun: ActiveProcesses,
 ) -> Result<Vec<Token<'t>>, AllocError> {
     let mut list = Vec::with_capacity(alloc, tokens.len().saturating_add(4))?;
     add_begun(tokens, begun, &mut list)?;
-    if matches!(begun, Begun::None) && !has_init(tokens) {
+    if matches!(begun, ActiveProcesses::None) && !has_init(tokens) {
         add_init(&mut list)?;
     }
     Ok(list)

@@ -11,7 +11,7 @@ ghost use Rattle.explain_find.specs.Control.{IsOfStep, IsOfCircle};
 
 use crate::kept::nowhere;
 use crate::tree::program_of;
-use explain_cause::cause::{Cause, Circle, ControlCause, Finding, Named, Segment};
+use explain_cause::cause::{CircleLabels, ControlCause, Finding, Named, Reason, Segment};
 use explain_cause::place::bytes_at;
 use explain_control::body::{BadFirstPoint, Circle as Blamed};
 use explain_control::proctypes::{breaks, first_bad_point, first_circle};
@@ -124,7 +124,7 @@ fn at_word<'t>(word: Named<'t>, cause: ControlCause<'t>) -> Finding<'t>
     };
     Finding {
         place: Some(place),
-        cause: Cause::Control(cause),
+        cause: Reason::Control(cause),
     }
 }
 
@@ -173,7 +173,7 @@ fn label_at<'t>(text: &'t [u8], labels: &[Label], at: usize) -> &'t [u8] {
 fn told_circle<'t>(text: &'t [u8], goto: u32, labels: &[Label]) -> Finding<'t>
     ensures { IfSome result.place (λ p. p.offset ≡ goto) }
 {
-    let circle = Circle {
+    let circle = CircleLabels {
         count: labels.len(),
         first: label_at(text, labels, 0),
         second: label_at(text, labels, 1),

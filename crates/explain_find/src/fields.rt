@@ -1,6 +1,6 @@
 //! Fields of records that are written behind `->`.
 
-use explain_cause::cause::{Cause, Finding, Named, Sort, UnknownCause};
+use explain_cause::cause::{Finding, NameSort, Named, Reason, UnknownCause};
 use explain_cause::place::is_at;
 use explain_syntax::stopped::{is_before, name_at};
 use pml_token::token::{Kind, Token};
@@ -41,11 +41,11 @@ fn record_before<'t>(text: &'t [u8], tokens: &[Token<'_>], offset: usize) -> Opt
 /// The same finding, or what is told of a field behind `->`.
 fn told<'t>(text: &'t [u8], tokens: &[Token<'_>], finding: Finding<'t>) -> Option<Finding<'t>> {
     match finding.cause {
-        Cause::Unknown(UnknownCause::Nowhere(Sort::Variable, field, _)) => {
+        Reason::Unknown(UnknownCause::Nowhere(NameSort::Variable, field, _)) => {
             let holder = record_before(text, tokens, finding.place?.offset)?;
             Some(Finding {
                 place: finding.place,
-                cause: Cause::Unknown(UnknownCause::Arrow(holder, field)),
+                cause: Reason::Unknown(UnknownCause::Arrow(holder, field)),
             })
         }
         _ => None,

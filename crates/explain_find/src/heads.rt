@@ -7,7 +7,7 @@ use pml_token::token::{Kind, Token, same_kind};
 
 /// What is wanted in the head of a definition, `NAME ( NAME , NAME ) {`.
 #[derive(Clone, Copy)]
-pub enum Part {
+pub enum HeadPart {
     /// Its name.
     Name,
     /// The `(`.
@@ -23,7 +23,7 @@ pub enum Part {
 }
 
 /// One thing, where a token is of the kind.
-fn only(kind: Kind, wanted: Kind, part: Part) -> Option<Part>
+fn only(kind: Kind, wanted: Kind, part: HeadPart) -> Option<HeadPart>
     ensures { result ≡ heads.only kind wanted part }
 {
     if same_kind(kind, wanted) {
@@ -34,32 +34,32 @@ fn only(kind: Kind, wanted: Kind, part: Part) -> Option<Part>
 }
 
 /// The same of another kind than `)`, behind which the body is wanted.
-fn or_close(kind: Kind, wanted: Kind, part: Part) -> Option<Part>
+fn or_close(kind: Kind, wanted: Kind, part: HeadPart) -> Option<HeadPart>
     ensures { result ≡ heads.or_close kind wanted part }
 {
     if same_kind(kind, Kind::CloseParen) {
-        Some(Part::Body)
+        Some(HeadPart::Body)
     } else {
         only(kind, wanted, part)
     }
 }
 
 /// What is wanted behind a token of this kind, if it is one that is wanted.
-fn behind(part: Part, kind: Kind) -> Option<Part>
+fn behind(part: HeadPart, kind: Kind) -> Option<HeadPart>
     ensures { result ≡ heads.behind part kind }
 {
     match part {
-        Part::Name => only(kind, Kind::Name, Part::Open),
-        Part::Open => only(kind, Kind::OpenParen, Part::First),
-        Part::First => or_close(kind, Kind::Name, Part::Behind),
-        Part::Behind => or_close(kind, Kind::Comma, Part::Parameter),
-        Part::Parameter => only(kind, Kind::Name, Part::Behind),
-        Part::Body => None,
+        HeadPart::Name => only(kind, Kind::Name, HeadPart::Open),
+        HeadPart::Open => only(kind, Kind::OpenParen, HeadPart::First),
+        HeadPart::First => or_close(kind, Kind::Name, HeadPart::Behind),
+        HeadPart::Behind => or_close(kind, Kind::Comma, HeadPart::Parameter),
+        HeadPart::Parameter => only(kind, Kind::Name, HeadPart::Behind),
+        HeadPart::Body => None,
     }
 }
 
 /// What is wanted behind these tokens, if each is one that is wanted at its place.
-pub fn head(tokens: &[Token<'_>], part: Part) -> Option<Part>
+pub fn head(tokens: &[Token<'_>], part: HeadPart) -> Option<HeadPart>
     ensures { result ≡ heads.head tokens.now part }
 {
     let mut so_far = part;
@@ -73,17 +73,17 @@ pub fn head(tokens: &[Token<'_>], part: Part) -> Option<Part>
 }
 
 /// Whether a token of this kind is the `{` of the body.
-pub fn opens_body(part: Option<Part>, kind: Kind) -> bool
+pub fn opens_body(part: Option<HeadPart>, kind: Kind) -> bool
     ensures { result ≡ heads.opens_body part kind }
 {
     match part {
-        Some(Part::Body) => same_kind(kind, Kind::OpenBrace),
+        Some(HeadPart::Body) => same_kind(kind, Kind::OpenBrace),
         _ => false,
     }
 }
 
 /// Whether a token of this kind is none that is wanted.
-pub fn is_unwanted(part: Option<Part>, kind: Kind) -> bool
+pub fn is_unwanted(part: Option<HeadPart>, kind: Kind) -> bool
     ensures { result ≡ heads.is_unwanted part kind }
 {
     match part {

@@ -1,8 +1,8 @@
 //! Initialisers that come to a fault.
 
-use crate::begun::{Begun, with_begun};
+use crate::begun::{ActiveProcesses, with_begun};
 use crate::tree::is_refused_at_start;
-use explain_cause::cause::{Cause, Fault, Finding, Segment, StartCause};
+use explain_cause::cause::{Finding, Hazard, Reason, Segment, StartCause};
 use explain_cause::place::{at_place, between, bytes_of, from, is_at, kind_at, place_of, untold};
 use explain_condition::spans::{assign_of, end_of_initialiser, initialiser_place};
 use pml_token::token::{Kind, Token};
@@ -180,22 +180,22 @@ fn fewest_faulty(
 }
 
 /// What a token of an initialiser may let come to a fault.
-fn fault_at(tokens: &[Token<'_>], at: usize) -> Option<Fault> {
+fn fault_at(tokens: &[Token<'_>], at: usize) -> Option<Hazard> {
     match kind_at(tokens, at) {
-        Kind::Slash | Kind::Percent => Some(Fault::Divides),
-        Kind::OpenBracket if !is_poll(tokens, at) => Some(Fault::Index),
-        Kind::Len | Kind::Empty | Kind::Full | Kind::Nempty | Kind::Nfull => Some(Fault::Channel),
-        Kind::Query | Kind::QueryQuery => Some(Fault::Channel),
+        Kind::Slash | Kind::Percent => Some(Hazard::Divides),
+        Kind::OpenBracket if !is_poll(tokens, at) => Some(Hazard::Index),
+        Kind::Len | Kind::Empty | Kind::Full | Kind::Nempty | Kind::Nfull => Some(Hazard::Channel),
+        Kind::Query | Kind::QueryQuery => Some(Hazard::Channel),
         _ => None,
     }
 }
 
 /// What is told of two things that may have come to a fault.
-fn either(a: Option<Fault>, b: Option<Fault>) -> Option<Fault> {
+fn either(a: Option<Hazard>, b: Option<Hazard>) -> Option<Hazard> {
     match (a, b) {
         (None, fault) => fault,
         (fault, None) => fault,
-        (Some(a), Some(b)) => Some(if a == b { a } else { Fault::Any }),
+        (Some(a), Some(b)) => Some(if a == b { a } else { Hazard::Any }),
     }
 }
 
@@ -210,12 +210,12 @@ fn can_fault(tokens: &[Token<'_>], one: Initialiser) -> bool {
 }
 
 /// What the tokens of an initialiser let come to a fault, if that is one thing.
-fn fault_of(tokens: &[Token<'_>], one: Initialiser) -> Fault {
+fn fault_of(tokens: &[Token<'_>], one: Initialiser) -> Hazard {
     let mut fault = None;
     for (i, _) in between(tokens, one.from, one.end).iter().enumerate() {
         fault = either(fault, fault_at(tokens, one.from.saturating_add(i)));
     }
-    fault.unwrap_or(Fault::Any)
+    fault.unwrap_or(Hazard::Any)
 }
 
 /// Whether a `[` is that of a poll.
@@ -242,7 +242,7 @@ fn with_globals<'t>(
     tokens: &[Token<'t>],
     marks: &[Mark<'_>],
 ) -> Result<Vec<Token<'t>>, AllocError> {
-    let list = with_begun(alloc, tokens, Begun::None)?;
+    let list = with_begun(alloc, tokens, ActiveProcesses::None)?;
     let others = initialisers(alloc, &list, marks, Owners::Proctypes)?;
     without(alloc, &list, &others)
 }
@@ -259,7 +259,7 @@ fn told<'t>(text: &'t [u8], tokens: &[Token<'_>], one: Initialiser) -> Finding<'
         Some(name) => {
             let fault = fault_of(tokens, one);
             let cause = StartCause::Initialiser(bytes_of(text, name), fault);
-            at_place(place_at(tokens, one, name), Cause::Start(cause))
+            at_place(place_at(tokens, one, name), Reason::Start(cause))
         }
         None => untold(),
     }
@@ -290,7 +290,7 @@ fn of_proctypes<'t>(
     tokens: &[Token<'_>],
     marks: &[Mark<'_>],
 ) -> Result<Finding<'t>, AllocError> {
-    let single = with_begun(alloc, tokens, Begun::One)?;
+    let single = with_begun(alloc, tokens, ActiveProcesses::One)?;
     if is_refused_at_start(alloc, &single)? {
         of_owners(alloc, text, &single, marks, Owners::Proctypes)
     } else {

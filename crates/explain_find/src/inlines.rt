@@ -3,12 +3,12 @@
 ghost use Rattle.std.specs.Prelude.{◌≡◌, true, is_some, drop};
 ghost use Rattle.std.specs.List.{list_any};
 ghost use Rattle.std.specs.Str.{bytes_eq};
-ghost use Rattle.explain_find.specs.declared.heads.Part.TheVariants as part;
+ghost use Rattle.explain_find.specs.declared.heads.HeadPart.TheVariants as part;
 ghost use Rattle.explain_find.specs.Heads.{head, opens_body, is_unwanted};
 ghost use Rattle.explain_find.specs.Inlines.{token_at, is_inline, is_defined, begins_with, has_definition, is_called, is_repeated};
 ghost use Rattle.explain_find.specs.Inlines.{has_one_name, wanted_at, breaks_form, can_break, IsOfMisuse};
 
-use crate::heads::{Part, head, is_unwanted, opens_body};
+use crate::heads::{HeadPart, head, is_unwanted, opens_body};
 use crate::there::is_of;
 use explain_cause::cause::Segment;
 use pml_token::token::{Kind, Token, same_kind};
@@ -109,7 +109,7 @@ fn begins_body(tokens: &[Token<'_>], at: usize, definition: usize) -> bool
     ensures { result ≡ true → opens_body (wanted_at tokens.now at definition) (token_at tokens.now at).kind ≡ true }
 {
     if definition <= at && at <= tokens.len() {
-        let part = head(&tokens[definition..at], Part::Name);
+        let part = head(&tokens[definition..at], HeadPart::Name);
         opens_body(part, token_at(tokens, at).kind())
     } else {
         false
@@ -121,7 +121,7 @@ fn is_unwanted_at(tokens: &[Token<'_>], at: usize, definition: usize) -> bool
     ensures { result ≡ true → is_unwanted (wanted_at tokens.now at definition) (token_at tokens.now at).kind ≡ true }
 {
     if definition <= at && at <= tokens.len() {
-        let part = head(&tokens[definition..at], Part::Name);
+        let part = head(&tokens[definition..at], HeadPart::Name);
         is_unwanted(part, token_at(tokens, at).kind())
     } else {
         false
@@ -132,7 +132,7 @@ fn is_unwanted_at(tokens: &[Token<'_>], at: usize, definition: usize) -> bool
 fn ends_in_head(tokens: &[Token<'_>], definition: usize) -> bool
     ensures { result ≡ true → is_some (head (drop definition tokens.now) part.Name) ≡ true }
 {
-    definition <= tokens.len() && head(&tokens[definition..], Part::Name).is_some()
+    definition <= tokens.len() && head(&tokens[definition..], HeadPart::Name).is_some()
 }
 
 /// Whether the token behind `at` others breaks the form of the definition whose name stands behind so many.

@@ -5,7 +5,7 @@ ghost use Rattle.explain_find.specs.Inlines.{IsOfMisuse};
 
 use crate::inlines::is_of_misuse;
 use crate::kept::placeless;
-use explain_cause::cause::{Cause, Finding, InlineCause, Named};
+use explain_cause::cause::{Finding, InlineCause, Named, Reason};
 use explain_cause::place::{at_token, between, bytes_of, named, untold};
 use explain_syntax::stopped::is_type;
 use pml_token::token::{Kind, Token};
@@ -79,7 +79,7 @@ fn found<'t>(text: &'t [u8], tokens: &[Token<'_>], misuse: Misuse) -> Finding<'t
     } else {
         cause_of(misuse.rule, bytes_of(text, token), definition)
     };
-    at_token(token, Cause::Inline(cause))
+    at_token(token, Reason::Inline(cause))
 }
 
 /// Of a definition or a call of an inline that is not right.

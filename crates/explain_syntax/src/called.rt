@@ -2,7 +2,7 @@
 
 use crate::forms::kind_before;
 use crate::stopped::{begin_of, is_before, name_at, name_before};
-use explain_cause::cause::{Named, Wanted};
+use explain_cause::cause::{Expected, Named};
 use explain_cause::place::{between, is_at, kind_at, named};
 use pml_token::token::{Kind, Token};
 
@@ -134,14 +134,14 @@ pub fn value_at<'t>(
     originals: &[Token<'_>],
     tokens: &[Token<'_>],
     at: usize,
-) -> Option<Wanted<'t>> {
+) -> Option<Expected<'t>> {
     let before = kind_before(tokens, at, 1);
     if wants_value(before) {
-        return Some(Wanted::InlineValue(call_at(text, originals, tokens, at)?));
+        return Some(Expected::InlineValue(call_at(text, originals, tokens, at)?));
     }
     if matches!(before, Kind::CloseBrace) && joins_values(kind_at(tokens, at)) {
         let own = index_of(originals, name_at(text, tokens, at).offset)?;
-        return Some(Wanted::InlineValue(call_before(text, originals, own)?));
+        return Some(Expected::InlineValue(call_before(text, originals, own)?));
     }
     None
 }

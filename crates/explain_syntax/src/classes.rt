@@ -1,7 +1,7 @@
 //! What may stand where no rule reads a token, found by reading the tokens in front of it with another behind them.
 
 use crate::trial::may_stand;
-use explain_cause::cause::{Class, Classes};
+use explain_cause::cause::{Classes, Phrase};
 use pml_token::token::{Kind, Token};
 use std::alloc::{AllocError, Global};
 
@@ -9,25 +9,25 @@ use std::alloc::{AllocError, Global};
 const MOST_READ: usize = 20_000;
 
 /// A token for each of what may stand somewhere. One that a class before it takes in is not told behind that.
-const TRIALS: [(Class, Kind, &[u8]); 18] = [
-    (Class::Unit, Kind::Proctype, b"proctype"),
-    (Class::Statement, Kind::Goto, b"goto"),
-    (Class::Expression, Kind::Number, b"1"),
-    (Class::Type, Kind::Byte, b"byte"),
-    (Class::Name, Kind::Name, b"x"),
-    (Class::Text, Kind::Quoted, b"\"\""),
-    (Class::Semicolon, Kind::Semicolon, b";"),
-    (Class::Comma, Kind::Comma, b","),
-    (Class::CloseParen, Kind::CloseParen, b")"),
-    (Class::CloseBracket, Kind::CloseBracket, b"]"),
-    (Class::CloseBrace, Kind::CloseBrace, b"}"),
-    (Class::OpenParen, Kind::OpenParen, b"("),
-    (Class::OpenBrace, Kind::OpenBrace, b"{"),
-    (Class::DoubleColon, Kind::DoubleColon, b"::"),
-    (Class::Assign, Kind::Assign, b"="),
-    (Class::Colon, Kind::Colon, b":"),
-    (Class::Of, Kind::Of, b"of"),
-    (Class::Operator, Kind::Plus, b"+"),
+const TRIALS: [(Phrase, Kind, &[u8]); 18] = [
+    (Phrase::Unit, Kind::Proctype, b"proctype"),
+    (Phrase::Statement, Kind::Goto, b"goto"),
+    (Phrase::Expression, Kind::Number, b"1"),
+    (Phrase::Type, Kind::Byte, b"byte"),
+    (Phrase::Name, Kind::Name, b"x"),
+    (Phrase::Text, Kind::Quoted, b"\"\""),
+    (Phrase::Semicolon, Kind::Semicolon, b";"),
+    (Phrase::Comma, Kind::Comma, b","),
+    (Phrase::CloseParen, Kind::CloseParen, b")"),
+    (Phrase::CloseBracket, Kind::CloseBracket, b"]"),
+    (Phrase::CloseBrace, Kind::CloseBrace, b"}"),
+    (Phrase::OpenParen, Kind::OpenParen, b"("),
+    (Phrase::OpenBrace, Kind::OpenBrace, b"{"),
+    (Phrase::DoubleColon, Kind::DoubleColon, b"::"),
+    (Phrase::Assign, Kind::Assign, b"="),
+    (Phrase::Colon, Kind::Colon, b":"),
+    (Phrase::Of, Kind::Of, b"of"),
+    (Phrase::Operator, Kind::Plus, b"+"),
 ];
 
 /// Nothing.
@@ -44,21 +44,21 @@ fn none() -> Classes {
 fn takes_words(found: Classes) -> bool {
     matches!(
         found.first,
-        Some(Class::Unit) | Some(Class::Statement) | Some(Class::Expression) | Some(Class::Type)
+        Some(Phrase::Unit) | Some(Phrase::Statement) | Some(Phrase::Expression) | Some(Phrase::Type)
     )
 }
 
 /// Whether what was found says of a class what it says.
-fn says(found: Classes, class: Class) -> bool {
+fn says(found: Classes, class: Phrase) -> bool {
     let is_word = matches!(
         class,
-        Class::Expression | Class::Type | Class::Name | Class::OpenParen | Class::OpenBrace
+        Phrase::Expression | Phrase::Type | Phrase::Name | Phrase::OpenParen | Phrase::OpenBrace
     );
     is_word && takes_words(found)
 }
 
 /// The same with one more, or as many as there may be.
-fn with(found: Classes, class: Class) -> Classes {
+fn with(found: Classes, class: Phrase) -> Classes {
     let Classes {
         first,
         second,

@@ -5,7 +5,7 @@ use crate::forms::{are_before, kind_before, kind_behind};
 use crate::stopped::{begin_of, begins_line, is_before, is_in_statement, is_type, name_at};
 use crate::words::{foreign_beside, proctype_of};
 use explain_cause::brackets::closing;
-use explain_cause::cause::{Named, Wanted};
+use explain_cause::cause::{Expected, Named};
 use explain_cause::foreign::Foreign;
 use explain_cause::place::{between, is_at, kind_at};
 use pml_token::token::{Kind, Token, same_kind};
@@ -94,11 +94,11 @@ fn second_at<'t>(text: &'t [u8], tokens: &[Token<'_>], at: usize) -> Option<Name
 }
 
 /// What is told of the name directly before a token: the one of a proctype, or of what has no type.
-fn without_type<'t>(text: &'t [u8], tokens: &[Token<'_>], at: usize) -> Wanted<'t> {
+fn without_type<'t>(text: &'t [u8], tokens: &[Token<'_>], at: usize) -> Expected<'t> {
     let name = name_at(text, tokens, at.saturating_sub(1));
     match proctype_of(text, tokens, name.name) {
-        Some(proctype) => Wanted::RunOf(proctype, name),
-        None => Wanted::Untyped(name),
+        Some(proctype) => Expected::RunOf(proctype, name),
+        None => Expected::Untyped(name),
     }
 }
 
@@ -108,7 +108,7 @@ pub fn names_beside<'t>(
     tokens: &[Token<'_>],
     opener: Option<usize>,
     at: usize,
-) -> Option<Wanted<'t>> {
+) -> Option<Expected<'t>> {
     if foreign_beside(text, tokens, at).is_some() {
         return None;
     }
@@ -116,7 +116,7 @@ pub fn names_beside<'t>(
         return Some(without_type(text, tokens, at));
     }
     let second = second_before(text, tokens, at).or(second_at(text, tokens, at));
-    Some(Wanted::CommaBefore(second?))
+    Some(Expected::CommaBefore(second?))
 }
 
 /// Whether a sign compares values, or joins conditions.
@@ -317,14 +317,14 @@ pub fn inline_at<'t>(
     originals: &[Token<'_>],
     tokens: &[Token<'_>],
     at: usize,
-) -> Option<Wanted<'t>> {
+) -> Option<Expected<'t>> {
     if !wants_other_name(kind_before(tokens, at, 1)) {
         return None;
     }
     let call = call_at(text, originals, tokens, at)?;
     let definition = definition_of(text, originals, call.name)?;
     Some(match kind_before(tokens, at, 1) {
-        Kind::Run => Wanted::InlineRun(call, definition),
-        _ => Wanted::NameOfInline(call, definition),
+        Kind::Run => Expected::InlineRun(call, definition),
+        _ => Expected::NameOfInline(call, definition),
     })
 }

@@ -2,7 +2,7 @@
 
 use crate::forms::are_before;
 use crate::stopped::{begin_of, is_before, is_type};
-use explain_cause::cause::Wanted;
+use explain_cause::cause::Expected;
 use explain_cause::foreign::Foreign;
 use explain_cause::place::{is_at, kind_at};
 use pml_token::token::{Kind, Token};
@@ -23,13 +23,13 @@ pub fn empty_brackets(tokens: &[Token<'_>], at: usize, before: Kind) -> Foreign 
 }
 
 /// What a `,` in brackets is meant for.
-pub fn in_brackets<'t>(tokens: &[Token<'_>], opener: usize) -> Wanted<'t> {
+pub fn in_brackets<'t>(tokens: &[Token<'_>], opener: usize) -> Expected<'t> {
     if !is_before(tokens, opener, 1, Kind::Name) {
-        Wanted::NoList
+        Expected::NoList
     } else if is_declaration(tokens, opener) {
-        Wanted::Form(Foreign::TwoSizes)
+        Expected::Form(Foreign::TwoSizes)
     } else {
-        Wanted::Form(Foreign::TwoIndexes)
+        Expected::Form(Foreign::TwoIndexes)
     }
 }
 

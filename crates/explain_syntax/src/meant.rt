@@ -9,7 +9,7 @@ use crate::stopped::{is_before, name_at, name_before};
 use crate::tried::is_behind_condition;
 use crate::within::{begins_unit, is_of_fields};
 use crate::words::{foreign_beside, is_declared, near_at};
-use explain_cause::cause::{Named, Segment, Wanted};
+use explain_cause::cause::{Expected, Named, Segment};
 use explain_cause::foreign::Foreign;
 use explain_cause::place::{bytes_at, is_at, kind_at};
 use explain_condition::near::nearest_word;
@@ -23,14 +23,14 @@ fn by_layout<'t>(
     tokens: &[Token<'_>],
     opener: Option<usize>,
     at: usize,
-) -> Result<Option<Wanted<'t>>, AllocError> {
+) -> Result<Option<Expected<'t>>, AllocError> {
     let suspect = if begins_unit(kind_at(tokens, at)) {
         unclosed_by_layout(alloc, text, tokens, opener, at)?
     } else {
         left_by_layout(text, tokens, opener, at)
     };
     match suspect {
-        Some(open) => Ok(Some(Wanted::CloserByLayout(name_at(text, tokens, open)))),
+        Some(open) => Ok(Some(Expected::CloserByLayout(name_at(text, tokens, open)))),
         None => Ok(None),
     }
 }
@@ -42,7 +42,7 @@ fn near_type<'t>(
     tokens: &[Token<'_>],
     opener: Option<usize>,
     at: usize,
-) -> Result<Option<Wanted<'t>>, AllocError> {
+) -> Result<Option<Expected<'t>>, AllocError> {
     match opener {
         Some(open) if is_of_fields(tokens, open) => near_at(alloc, text, tokens, at),
         _ => Ok(None),
@@ -50,10 +50,10 @@ fn near_type<'t>(
 }
 
 /// What is told of a word of another language where it stands for the type of a parameter.
-fn of_parameter(wanted: Wanted<'_>) -> Wanted<'_> {
+fn of_parameter(wanted: Expected<'_>) -> Expected<'_> {
     match wanted {
-        Wanted::ForeignWord(Foreign::Channel, name) => {
-            Wanted::ForeignWord(Foreign::ChannelParameter, name)
+        Expected::ForeignWord(Foreign::Channel, name) => {
+            Expected::ForeignWord(Foreign::ChannelParameter, name)
         }
         wanted => wanted,
     }
@@ -66,7 +66,7 @@ fn unknown_type<'t>(
     tokens: &[Token<'_>],
     opener: Option<usize>,
     at: usize,
-) -> Result<Option<Wanted<'t>>, AllocError> {
+) -> Result<Option<Expected<'t>>, AllocError> {
     let Some(place) = unknown_before(tokens, opener, at) else {
         return Ok(None);
     };
@@ -75,7 +75,7 @@ fn unknown_type<'t>(
     }
     match near_at(alloc, text, tokens, place)? {
         Some(word) => Ok(Some(word)),
-        None => Ok(Some(Wanted::NoType(name_at(text, tokens, place)))),
+        None => Ok(Some(Expected::NoType(name_at(text, tokens, place)))),
     }
 }
 
@@ -104,25 +104,25 @@ fn near_run<'t>(
     text: &'t [u8],
     tokens: &[Token<'_>],
     at: usize,
-) -> Result<Option<Wanted<'t>>, AllocError> {
+) -> Result<Option<Expected<'t>>, AllocError> {
     if !is_call(tokens, at) || !is_before(tokens, at, 2, Kind::Name) {
         return Ok(None);
     }
     match near_at(alloc, text, tokens, at.saturating_sub(2))? {
-        Some(Wanted::Word(name, word)) if word == b"run".as_slice() => {
-            Ok(Some(Wanted::Word(name, word)))
+        Some(Expected::Word(name, word)) if word == b"run".as_slice() => {
+            Ok(Some(Expected::Word(name, word)))
         }
         _ => Ok(None),
     }
 }
 
 /// A sign that stands in an option between a condition and an assignment, whose `=` is the token at `at`.
-fn arrow_before<'t>(text: &'t [u8], tokens: &[Token<'_>], at: usize) -> Option<Wanted<'t>> {
+fn arrow_before<'t>(text: &'t [u8], tokens: &[Token<'_>], at: usize) -> Option<Expected<'t>> {
     let sign = at.checked_sub(2)?;
     let is_assigned = is_at(tokens, at, Kind::Assign) && is_before(tokens, at, 1, Kind::Name);
     let is_sign = matches!(kind_at(tokens, sign), Kind::Greater | Kind::Minus);
     if is_assigned && is_sign && is_behind_condition(tokens, sign) {
-        Some(Wanted::ArrowFor(name_at(text, tokens, sign)))
+        Some(Expected::ArrowFor(name_at(text, tokens, sign)))
     } else {
         None
     }
@@ -135,7 +135,7 @@ pub fn meant_first<'t>(
     tokens: &[Token<'_>],
     opener: Option<usize>,
     at: usize,
-) -> Result<Option<Wanted<'t>>, AllocError> {
+) -> Result<Option<Expected<'t>>, AllocError> {
     if let Some(wanted) = by_layout(alloc, text, tokens, opener, at)? {
         return Ok(Some(wanted));
     }
@@ -179,12 +179,12 @@ fn near_joined<'t>(
     text: &'t [u8],
     tokens: &[Token<'_>],
     at: usize,
-) -> Result<Option<Wanted<'t>>, AllocError> {
+) -> Result<Option<Expected<'t>>, AllocError> {
     let Some(name) = joined_before(text, tokens, at) else {
         return Ok(None);
     };
     match nearest_word(alloc, name.name)? {
-        Some(word) => Ok(Some(Wanted::Word(name, word))),
+        Some(word) => Ok(Some(Expected::Word(name, word))),
         None => Ok(None),
     }
 }
@@ -195,7 +195,7 @@ pub fn near_unit<'t>(
     text: &'t [u8],
     tokens: &[Token<'_>],
     at: usize,
-) -> Result<Option<Wanted<'t>>, AllocError> {
+) -> Result<Option<Expected<'t>>, AllocError> {
     let opens = matches!(kind_at(tokens, at), Kind::OpenParen | Kind::OpenBrace);
     if opens && is_before(tokens, at, 1, Kind::Name) && is_before(tokens, at, 2, Kind::Name) {
         near_at(alloc, text, tokens, at.saturating_sub(2))

@@ -22,62 +22,62 @@ use crate::words::{
     called_variable, foreign_beside, foreign_call, is_record, is_typed, near_at, near_beside,
     no_word, number_beside, proctype_beside, type_before,
 };
-use explain_cause::cause::{Finding, Named, Wanted};
+use explain_cause::cause::{Expected, Finding, Named};
 use explain_cause::foreign::Foreign;
 use explain_cause::place::{end_of, is_at, kind_at, untold};
 use pml_token::token::{Kind, Token, same_kind};
 use std::alloc::{AllocError, Global};
 
 /// What a list in braces or brackets is meant for.
-fn list_at<'t>(tokens: &[Token<'_>], at: usize) -> Wanted<'t> {
+fn list_at<'t>(tokens: &[Token<'_>], at: usize) -> Expected<'t> {
     if is_at(tokens, at.saturating_add(3), Kind::Of) {
-        return Wanted::Form(if is_at(tokens, at, Kind::OpenBracket) {
+        return Expected::Form(if is_at(tokens, at, Kind::OpenBracket) {
             Foreign::ChannelAssignment
         } else {
             Foreign::Channel
         });
     }
     if is_before(tokens, at, 2, Kind::Mtype) {
-        Wanted::Form(Foreign::Enumeration)
+        Expected::Form(Foreign::Enumeration)
     } else if is_before(tokens, at, 3, Kind::Mtype) {
-        Wanted::Form(Foreign::NamedMtype)
+        Expected::Form(Foreign::NamedMtype)
     } else if is_record(tokens, at.saturating_sub(2)) {
-        Wanted::Form(Foreign::RecordList)
+        Expected::Form(Foreign::RecordList)
     } else {
-        Wanted::NoList
+        Expected::NoList
     }
 }
 
 /// What is told by the token and those in front of it alone.
-fn by_neighbours<'t>(text: &'t [u8], tokens: &[Token<'_>], at: usize) -> Option<Wanted<'t>> {
+fn by_neighbours<'t>(text: &'t [u8], tokens: &[Token<'_>], at: usize) -> Option<Expected<'t>> {
     let name = name_before(text, tokens, at, 1).name;
     match neighbours_of(tokens, at) {
         Neighbours::List => Some(list_at(tokens, at)),
-        Neighbours::Subtype => Some(Wanted::NoSubtype),
-        Neighbours::Assignment => Some(Wanted::PlainAssignment),
-        Neighbours::Process => Some(Wanted::Arguments(name)),
-        Neighbours::Operand => Some(Wanted::Operand(name)),
+        Neighbours::Subtype => Some(Expected::NoSubtype),
+        Neighbours::Assignment => Some(Expected::PlainAssignment),
+        Neighbours::Process => Some(Expected::Arguments(name)),
+        Neighbours::Operand => Some(Expected::Operand(name)),
         Neighbours::Options if is_before(tokens, at, 2, Kind::Else) => {
-            Some(Wanted::Form(Foreign::ElseIf))
+            Some(Expected::Form(Foreign::ElseIf))
         }
-        Neighbours::Options => Some(Wanted::Options(name)),
-        Neighbours::Begun => Some(Wanted::NoRun),
+        Neighbours::Options => Some(Expected::Options(name)),
+        Neighbours::Begun => Some(Expected::NoRun),
         Neighbours::Other => None,
     }
 }
 
 /// What is told by a form of another language, or by the name of a proctype.
-fn by_forms<'t>(text: &'t [u8], tokens: &[Token<'_>], at: usize) -> Option<Wanted<'t>> {
+fn by_forms<'t>(text: &'t [u8], tokens: &[Token<'_>], at: usize) -> Option<Expected<'t>> {
     match form_at(tokens, at) {
-        Some(form) => Some(Wanted::Form(form)),
+        Some(form) => Some(Expected::Form(form)),
         None => proctype_beside(text, tokens, at),
     }
 }
 
 /// What is told by a word or a number of another language, or else by a form.
-fn by_words<'t>(text: &'t [u8], tokens: &[Token<'_>], at: usize) -> Option<Wanted<'t>> {
+fn by_words<'t>(text: &'t [u8], tokens: &[Token<'_>], at: usize) -> Option<Expected<'t>> {
     if is_select_range(tokens, at) {
-        return Some(Wanted::Form(Foreign::SelectRange));
+        return Some(Expected::Form(Foreign::SelectRange));
     }
     let word = number_beside(text, tokens, at).or(foreign_beside(text, tokens, at));
     match word {
@@ -87,7 +87,7 @@ fn by_words<'t>(text: &'t [u8], tokens: &[Token<'_>], at: usize) -> Option<Wante
 }
 
 /// What is told by the token and those in front of it, where it is no word that is only mistyped.
-fn by_tokens<'t>(text: &'t [u8], tokens: &[Token<'_>], at: usize) -> Option<Wanted<'t>> {
+fn by_tokens<'t>(text: &'t [u8], tokens: &[Token<'_>], at: usize) -> Option<Expected<'t>> {
     match by_neighbours(text, tokens, at) {
         Some(wanted) => Some(wanted),
         None => by_words(text, tokens, at),
@@ -95,12 +95,12 @@ fn by_tokens<'t>(text: &'t [u8], tokens: &[Token<'_>], at: usize) -> Option<Want
 }
 
 /// Of a call of what is not declared, in front of the `(` at `at`.
-fn called_name<'t>(tokens: &[Token<'_>], at: usize, name: Named<'t>) -> Wanted<'t> {
+fn called_name<'t>(tokens: &[Token<'_>], at: usize, name: Named<'t>) -> Expected<'t> {
     match kind_before(tokens, at, 2) {
         Kind::Assign | Kind::OpenParen | Kind::Comma | Kind::Equal | Kind::Plus | Kind::Minus => {
-            Wanted::ForeignWord(Foreign::Function, name)
+            Expected::ForeignWord(Foreign::Function, name)
         }
-        _ => Wanted::Inline(name, None),
+        _ => Expected::Inline(name, None),
     }
 }
 
@@ -110,14 +110,14 @@ fn by_call<'t>(
     originals: &[Token<'_>],
     tokens: &[Token<'_>],
     at: usize,
-) -> Option<Wanted<'t>> {
+) -> Option<Expected<'t>> {
     if !is_call(tokens, at) {
         return None;
     }
     let name = name_before(text, tokens, at, 1);
     match definition_of(text, originals, name.name) {
         None => called_variable(text, tokens, at).or(Some(called_name(tokens, at, name))),
-        definition => Some(Wanted::Inline(name, definition)),
+        definition => Some(Expected::Inline(name, definition)),
     }
 }
 
@@ -127,14 +127,14 @@ fn end_within<'t>(
     tokens: &[Token<'_>],
     opener: usize,
     at: usize,
-) -> Option<Wanted<'t>> {
+) -> Option<Expected<'t>> {
     let name = name_at(text, tokens, at);
     if name.name != b"end".as_slice() {
         return None;
     }
     match kind_at(tokens, opener) {
-        Kind::If => Some(Wanted::ForeignWord(Foreign::EndIf, name)),
-        Kind::Do => Some(Wanted::ForeignWord(Foreign::EndLoop, name)),
+        Kind::If => Some(Expected::ForeignWord(Foreign::EndIf, name)),
+        Kind::Do => Some(Expected::ForeignWord(Foreign::EndLoop, name)),
         _ => None,
     }
 }
@@ -145,7 +145,7 @@ fn unfit_within<'t>(
     tokens: &[Token<'_>],
     opener: usize,
     at: usize,
-) -> Option<Wanted<'t>> {
+) -> Option<Expected<'t>> {
     let kind = kind_at(tokens, at);
     let is_bracket = is_at(tokens, opener, Kind::OpenBracket);
     let is_paren = is_at(tokens, opener, Kind::OpenParen);
@@ -164,9 +164,9 @@ fn before_arrow<'t>(
     tokens: &[Token<'_>],
     opener: usize,
     at: usize,
-) -> Option<Wanted<'t>> {
+) -> Option<Expected<'t>> {
     let arrow = arrow_between(tokens, opener, at)?;
-    Some(Wanted::CloserBeforeArrow(name_at(text, tokens, opener), name_at(text, tokens, arrow)))
+    Some(Expected::CloserBeforeArrow(name_at(text, tokens, opener), name_at(text, tokens, arrow)))
 }
 
 /// What is told by what is open at the token.
@@ -175,15 +175,15 @@ fn within<'t>(
     tokens: &[Token<'_>],
     opener: usize,
     at: usize,
-) -> Option<Wanted<'t>> {
+) -> Option<Expected<'t>> {
     if let Some(word) = foreign_call(text, tokens, opener) {
         return Some(word);
     }
     if let Some(form) = form_within(tokens, opener, at) {
-        return Some(Wanted::Form(form));
+        return Some(Expected::Form(form));
     }
     if is_left_open(tokens, opener, kind_at(tokens, at)) && !is_declared_word(tokens, at) {
-        Some(Wanted::CloserBefore(name_at(text, tokens, opener)))
+        Some(Expected::CloserBefore(name_at(text, tokens, opener)))
     } else {
         unfit_within(text, tokens, opener, at)
     }
@@ -195,7 +195,7 @@ fn by_opener<'t>(
     tokens: &[Token<'_>],
     opener: Option<usize>,
     at: usize,
-) -> Option<Wanted<'t>> {
+) -> Option<Expected<'t>> {
     within(text, tokens, opener?, at)
 }
 
@@ -205,7 +205,7 @@ fn by_type<'t>(
     text: &'t [u8],
     tokens: &[Token<'_>],
     at: usize,
-) -> Result<Option<Wanted<'t>>, AllocError> {
+) -> Result<Option<Expected<'t>>, AllocError> {
     let Some(wanted) = type_before(text, tokens, at) else {
         return Ok(None);
     };
@@ -239,13 +239,13 @@ fn outside<'t>(
     text: &'t [u8],
     tokens: &[Token<'_>],
     at: usize,
-) -> Result<Wanted<'t>, AllocError> {
+) -> Result<Expected<'t>, AllocError> {
     if let Some(wanted) = foreign_beside(text, tokens, at) {
         return Ok(wanted);
     }
     match near_beside(alloc, text, tokens, at)? {
         Some(wanted) => Ok(wanted),
-        None => Ok(Wanted::Form(outside_form(tokens, at))),
+        None => Ok(Expected::Form(outside_form(tokens, at))),
     }
 }
 
@@ -256,7 +256,7 @@ fn wanted_by_name<'t>(
     originals: &[Token<'_>],
     tokens: &[Token<'_>],
     at: usize,
-) -> Result<Wanted<'t>, AllocError> {
+) -> Result<Expected<'t>, AllocError> {
     if let Some(wanted) = near_beside(alloc, text, tokens, at)? {
         return Ok(wanted);
     }
@@ -280,7 +280,7 @@ fn wanted_by_tokens<'t>(
     originals: &[Token<'_>],
     tokens: &[Token<'_>],
     at: usize,
-) -> Result<Wanted<'t>, AllocError> {
+) -> Result<Expected<'t>, AllocError> {
     if let Some(wanted) = by_type(alloc, text, tokens, at)? {
         return Ok(wanted);
     }
@@ -308,7 +308,7 @@ fn wanted_of<'t>(
     originals: &[Token<'_>],
     tokens: &[Token<'_>],
     at: usize,
-) -> Result<Wanted<'t>, AllocError> {
+) -> Result<Expected<'t>, AllocError> {
     let opener = opener_before(alloc, tokens, at)?;
     if let Some(wanted) = meant_first(alloc, text, tokens, opener, at)? {
         return Ok(wanted);
@@ -331,10 +331,10 @@ fn at_end<'t>(
     text: &'t [u8],
     tokens: &[Token<'_>],
     opener: usize,
-) -> Result<Wanted<'t>, AllocError> {
+) -> Result<Expected<'t>, AllocError> {
     match unclosed_by_layout(alloc, text, tokens, Some(opener), tokens.len())? {
-        Some(suspect) => Ok(Wanted::EndByLayout(name_at(text, tokens, suspect))),
-        None => Ok(Wanted::EndOf(name_at(text, tokens, opener))),
+        Some(suspect) => Ok(Expected::EndByLayout(name_at(text, tokens, suspect))),
+        None => Ok(Expected::EndOf(name_at(text, tokens, opener))),
     }
 }
 
@@ -344,10 +344,10 @@ fn wanted_at<'t>(
     originals: &[Token<'_>],
     tokens: &[Token<'_>],
     at: usize,
-) -> Result<Wanted<'t>, AllocError> {
+) -> Result<Expected<'t>, AllocError> {
     match brackets_of(alloc, tokens, at)? {
-        Brackets::Other(opener) => Ok(Wanted::Closer(name_at(text, tokens, opener))),
-        Brackets::Nothing => Ok(Wanted::NothingOpen),
+        Brackets::Other(opener) => Ok(Expected::Closer(name_at(text, tokens, opener))),
+        Brackets::Nothing => Ok(Expected::NothingOpen),
         Brackets::Open(opener) => at_end(alloc, text, tokens, opener),
         Brackets::Right => wanted_of(alloc, text, originals, tokens, at),
     }
@@ -370,7 +370,7 @@ fn of_stop<'t>(
 
 /// A text without a token.
 fn empty(text: &[u8]) -> Finding<'_> {
-    found_at(end_of(text), &text[..0], Wanted::Untold)
+    found_at(end_of(text), &text[..0], Expected::Untold)
 }
 
 /// Of tokens that no tree spells; `originals` are those of the text, and `line` is that of the token that no rule reads, or of the last one.

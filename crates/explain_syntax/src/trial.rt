@@ -10,7 +10,7 @@ use std::alloc::{AllocError, Global};
 
 /// A change of one token.
 #[derive(Clone, Copy)]
-pub enum Change {
+pub enum Repair {
     /// A token is put in front of it.
     Insert(Kind, &'static [u8]),
     /// It is another one.
@@ -38,16 +38,16 @@ fn numbered<'t>(alloc: Global, tokens: &[Token<'t>]) -> Result<Vec<Token<'t>>, A
 /// Adds what stands in place of the token that is changed.
 fn add_changed<'t>(
     token: &Token<'t>,
-    change: Change,
+    change: Repair,
     list: &mut Vec<Token<'t>>,
 ) -> Result<(), AllocError> {
     match change {
-        Change::Insert(kind, text) => {
+        Repair::Insert(kind, text) => {
             add(kind, text, list)?;
             add(token.kind(), token.text(), list)
         }
-        Change::Replace(kind, text) => add(kind, text, list),
-        Change::Remove => Ok(()),
+        Repair::Replace(kind, text) => add(kind, text, list),
+        Repair::Remove => Ok(()),
     }
 }
 
@@ -55,7 +55,7 @@ fn add_changed<'t>(
 fn add_either<'t>(
     token: &Token<'t>,
     is_changed: bool,
-    change: Change,
+    change: Repair,
     list: &mut Vec<Token<'t>>,
 ) -> Result<(), AllocError> {
     if is_changed {
@@ -70,7 +70,7 @@ fn changed<'t>(
     alloc: Global,
     tokens: &[Token<'t>],
     at: usize,
-    change: Change,
+    change: Repair,
 ) -> Result<Vec<Token<'t>>, AllocError> {
     let mut list = Vec::with_capacity(alloc, tokens.len().saturating_add(1))?;
     for (i, token) in tokens.iter().enumerate() {
@@ -127,9 +127,9 @@ pub fn stop(alloc: Global, tokens: &[Token<'_>], line: u32) -> Result<Option<usi
 }
 
 /// The first token that has to be read behind a change, so that it was of use.
-fn aim(at: usize, change: Change) -> usize {
+fn aim(at: usize, change: Repair) -> usize {
     match change {
-        Change::Insert(_, _) => at.saturating_add(1),
+        Repair::Insert(_, _) => at.saturating_add(1),
         _ => at,
     }
 }
@@ -147,7 +147,7 @@ pub fn reads_on(
     alloc: Global,
     tokens: &[Token<'_>],
     at: usize,
-    change: Change,
+    change: Repair,
 ) -> Result<bool, AllocError> {
     let list = changed(alloc, tokens, at, change)?;
     let place = stop_of(alloc, &list)?;
@@ -163,7 +163,7 @@ pub fn may_stand(
     text: &'static [u8],
 ) -> Result<bool, AllocError> {
     let front = between(tokens, 0, at.saturating_add(1));
-    let list = changed(alloc, front, at, Change::Insert(kind, text))?;
+    let list = changed(alloc, front, at, Repair::Insert(kind, text))?;
     let place = stop_of(alloc, &list)?;
     Ok(is_behind(place, at))
 }

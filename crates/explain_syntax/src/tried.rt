@@ -7,9 +7,9 @@ use crate::forms::kind_behind;
 use crate::stopped::{
     begin_of, begins_line, is_before, is_in_statement, name_at, name_before, opener_before,
 };
-use crate::trial::{Change, may_stand, reads_on};
+use crate::trial::{Repair, may_stand, reads_on};
 use crate::within::{has_arrow, is_closed, is_named_there, is_statement};
-use explain_cause::cause::{Named, Wanted};
+use explain_cause::cause::{Expected, Named};
 use explain_cause::foreign::Foreign;
 use explain_cause::place::{between, from, is_at, kind_at};
 use pml_token::token::{Kind, Token, same_kind};
@@ -80,11 +80,11 @@ fn by_sign(alloc: Global, tokens: &[Token<'_>], at: usize) -> Result<Trial, Allo
     if !is_colon && !same_kind(kind, Kind::Comma) {
         return Ok(Trial::Untold);
     }
-    let double = Change::Replace(Kind::DoubleColon, b"::");
+    let double = Repair::Replace(Kind::DoubleColon, b"::");
     if is_colon && begins_option(tokens, at) && reads_on(alloc, tokens, at, double)? {
         return Ok(Trial::OptionFor);
     }
-    if reads_on(alloc, tokens, at, Change::Replace(Kind::Semicolon, b";"))? {
+    if reads_on(alloc, tokens, at, Repair::Replace(Kind::Semicolon, b";"))? {
         Ok(Trial::SemicolonFor)
     } else {
         Ok(Trial::Untold)
@@ -93,10 +93,10 @@ fn by_sign(alloc: Global, tokens: &[Token<'_>], at: usize) -> Result<Trial, Allo
 
 /// What is told by leaving a sign out, or by a `,` before a token.
 fn by_less(alloc: Global, tokens: &[Token<'_>], at: usize) -> Result<Trial, AllocError> {
-    if is_sign(kind_at(tokens, at)) && reads_on(alloc, tokens, at, Change::Remove)? {
+    if is_sign(kind_at(tokens, at)) && reads_on(alloc, tokens, at, Repair::Remove)? {
         return Ok(Trial::Nothing);
     }
-    if reads_on(alloc, tokens, at, Change::Insert(Kind::Comma, b","))? {
+    if reads_on(alloc, tokens, at, Repair::Insert(Kind::Comma, b","))? {
         Ok(Trial::Comma)
     } else {
         Ok(Trial::Untold)
@@ -108,7 +108,7 @@ fn is_name_wanted(alloc: Global, tokens: &[Token<'_>], at: usize) -> Result<bool
     if !is_word_at(tokens, at) || may_stand(alloc, tokens, at, Kind::Goto, b"goto")? {
         return Ok(false);
     }
-    reads_on(alloc, tokens, at, Change::Replace(Kind::Name, b"x"))
+    reads_on(alloc, tokens, at, Repair::Replace(Kind::Name, b"x"))
 }
 
 /// What is told by reading the tokens with another one in the place of one of them.
@@ -156,7 +156,7 @@ fn tried(
     at: usize,
     begins: bool,
 ) -> Result<Trial, AllocError> {
-    let comma = Change::Insert(Kind::Comma, b",");
+    let comma = Repair::Insert(Kind::Comma, b",");
     if !begins && is_field(tokens, at) && reads_on(alloc, tokens, at, comma)? {
         return Ok(Trial::Comma);
     }
@@ -164,11 +164,11 @@ fn tried(
 }
 
 fn tried_otherwise(alloc: Global, tokens: &[Token<'_>], at: usize) -> Result<Trial, AllocError> {
-    let semicolon = Change::Insert(Kind::Semicolon, b";");
+    let semicolon = Repair::Insert(Kind::Semicolon, b";");
     if reads_on(alloc, tokens, at, semicolon)? {
         return Ok(Trial::Semicolon);
     }
-    let skip = Change::Insert(Kind::Skip, b"skip");
+    let skip = Repair::Insert(Kind::Skip, b"skip");
     if is_labelled(tokens, at) && reads_on(alloc, tokens, at, skip)? {
         return Ok(Trial::Statement);
     }
@@ -211,22 +211,22 @@ fn at_line<'t>(
     tokens: &[Token<'_>],
     opener: Option<usize>,
     at: usize,
-) -> Wanted<'t> {
+) -> Expected<'t> {
     let last = name_before(text, tokens, at, 1);
     match opener {
         Some(open) if is_opener(tokens, opener) => {
             let opening = name_at(text, tokens, open);
             if is_last_word(tokens, at) {
-                Wanted::Closer(opening)
+                Expected::Closer(opening)
             } else if !is_closed(tokens, open) {
-                Wanted::CloserAndSemicolon(opening)
+                Expected::CloserAndSemicolon(opening)
             } else if has_arrow(tokens, at, end_of_condition(tokens, at)) {
-                Wanted::SemicolonOrOption(last)
+                Expected::SemicolonOrOption(last)
             } else {
-                Wanted::SemicolonAtLineEnd(last)
+                Expected::SemicolonAtLineEnd(last)
             }
         }
-        _ => Wanted::SemicolonAtLineEnd(last),
+        _ => Expected::SemicolonAtLineEnd(last),
     }
 }
 
@@ -260,11 +260,11 @@ pub fn is_behind_condition(tokens: &[Token<'_>], at: usize) -> bool {
 }
 
 /// What is wanted in front of a token on the line of the one before it.
-fn on_line<'t>(tokens: &[Token<'_>], at: usize) -> Wanted<'t> {
+fn on_line<'t>(tokens: &[Token<'_>], at: usize) -> Expected<'t> {
     if is_behind_condition(tokens, at) {
-        Wanted::Form(Foreign::Then)
+        Expected::Form(Foreign::Then)
     } else {
-        Wanted::Semicolon
+        Expected::Semicolon
     }
 }
 
@@ -275,7 +275,7 @@ fn semicolon<'t>(
     tokens: &[Token<'_>],
     at: usize,
     shown: Named<'t>,
-) -> Result<Wanted<'t>, AllocError> {
+) -> Result<Expected<'t>, AllocError> {
     let is_first = at > 0 && begins_line(text, shown.offset);
     if !is_first && !is_last_word(tokens, at) {
         return Ok(on_line(tokens, at));
@@ -297,30 +297,30 @@ fn is_declared_at(tokens: &[Token<'_>], at: usize) -> bool {
 }
 
 /// What is wanted in place of the token, or in front of it, but for a `;`.
-fn by_trial<'t>(text: &'t [u8], tokens: &[Token<'_>], at: usize, trial: Trial) -> Wanted<'t> {
+fn by_trial<'t>(text: &'t [u8], tokens: &[Token<'_>], at: usize, trial: Trial) -> Expected<'t> {
     match trial {
-        Trial::Semicolon => Wanted::Semicolon,
-        Trial::Statement => Wanted::Statement(name_before(text, tokens, at, 2).name),
-        Trial::Run => Wanted::NoRun,
+        Trial::Semicolon => Expected::Semicolon,
+        Trial::Statement => Expected::Statement(name_before(text, tokens, at, 2).name),
+        Trial::Run => Expected::NoRun,
         Trial::Name if is_statement(kind_at(tokens, at)) && !is_declared_at(tokens, at) => {
-            Wanted::Form(Foreign::StatementWord)
+            Expected::Form(Foreign::StatementWord)
         }
-        Trial::Name => Wanted::Name,
-        Trial::Nothing => Wanted::Nothing,
-        Trial::Comma => Wanted::Comma,
-        Trial::SemicolonFor => Wanted::SemicolonFor,
-        Trial::OptionFor => Wanted::OptionFor,
-        Trial::Untold => Wanted::Untold,
+        Trial::Name => Expected::Name,
+        Trial::Nothing => Expected::Nothing,
+        Trial::Comma => Expected::Comma,
+        Trial::SemicolonFor => Expected::SemicolonFor,
+        Trial::OptionFor => Expected::OptionFor,
+        Trial::Untold => Expected::Untold,
     }
 }
 
 /// What may stand there, by class.
-fn one_of<'t>(alloc: Global, tokens: &[Token<'_>], at: usize) -> Result<Wanted<'t>, AllocError> {
+fn one_of<'t>(alloc: Global, tokens: &[Token<'_>], at: usize) -> Result<Expected<'t>, AllocError> {
     let classes = classes_at(alloc, tokens, at)?;
     if classes.first.is_none() {
-        Ok(Wanted::Untold)
+        Ok(Expected::Untold)
     } else {
-        Ok(Wanted::OneOf(classes))
+        Ok(Expected::OneOf(classes))
     }
 }
 
@@ -332,7 +332,7 @@ fn wanted_of<'t>(
     at: usize,
     shown: Named<'t>,
     trial: Trial,
-) -> Result<Wanted<'t>, AllocError> {
+) -> Result<Expected<'t>, AllocError> {
     match trial {
         Trial::Semicolon => semicolon(alloc, text, tokens, at, shown),
         Trial::Untold => one_of(alloc, tokens, at),
@@ -347,9 +347,9 @@ pub fn wanted_by_trial<'t>(
     tokens: &[Token<'_>],
     at: usize,
     shown: Named<'t>,
-) -> Result<Wanted<'t>, AllocError> {
+) -> Result<Expected<'t>, AllocError> {
     if wants_option(alloc, tokens, at)? {
-        return Ok(Wanted::OptionSign);
+        return Ok(Expected::OptionSign);
     }
     let trial = tried(alloc, tokens, at, begins_line(text, shown.offset))?;
     wanted_of(alloc, text, tokens, at, shown, trial)

@@ -4,7 +4,7 @@ use crate::declared::meant_at;
 use crate::forms::{kind_before, kind_behind};
 use crate::stopped::{begin_of, is_before, is_type, name_at};
 use crate::within::{begins_unit, is_headless};
-use explain_cause::cause::{Named, Segment, Wanted};
+use explain_cause::cause::{Expected, Named, Segment};
 use explain_cause::foreign::Foreign;
 use explain_cause::place::{between, bytes_at, is_at, kind_at, named};
 use explain_cause::words::foreign_word;
@@ -161,20 +161,24 @@ fn word_in_front<'t>(text: &'t [u8], tokens: &[Token<'_>], at: usize) -> Option<
 }
 
 /// A word of another language at the token that no rule reads, or before it.
-pub fn foreign_beside<'t>(text: &'t [u8], tokens: &[Token<'_>], at: usize) -> Option<Wanted<'t>> {
+pub fn foreign_beside<'t>(text: &'t [u8], tokens: &[Token<'_>], at: usize) -> Option<Expected<'t>> {
     match word_at(text, tokens, at).or(word_in_front(text, tokens, at)) {
-        Some(word) => Some(Wanted::ForeignWord(word.foreign, word.name)),
+        Some(word) => Some(Expected::ForeignWord(word.foreign, word.name)),
         None => None,
     }
 }
 
 /// A word of another language with `!` in front of the `(` that is open.
-pub fn foreign_call<'t>(text: &'t [u8], tokens: &[Token<'_>], opener: usize) -> Option<Wanted<'t>> {
+pub fn foreign_call<'t>(
+    text: &'t [u8],
+    tokens: &[Token<'_>],
+    opener: usize,
+) -> Option<Expected<'t>> {
     if !is_at(tokens, opener, Kind::OpenParen) || !is_before(tokens, opener, 1, Kind::Bang) {
         return None;
     }
     let word = word_before(text, tokens, opener, 2)?;
-    Some(Wanted::ForeignWord(word.foreign, word.name))
+    Some(Expected::ForeignWord(word.foreign, word.name))
 }
 
 /// The number and the name that stand side by side without a blank, the name at `at`.
@@ -203,13 +207,13 @@ fn joined_form(behind: Kind) -> Foreign {
 }
 
 /// A number of another form, or a label that begins with one, at the token that no rule reads or directly before it.
-pub fn number_beside<'t>(text: &'t [u8], tokens: &[Token<'_>], at: usize) -> Option<Wanted<'t>> {
+pub fn number_beside<'t>(text: &'t [u8], tokens: &[Token<'_>], at: usize) -> Option<Expected<'t>> {
     if let Some(own) = joined_at(text, tokens, at) {
-        return Some(Wanted::ForeignWord(joined_form(kind_behind(tokens, at)), own));
+        return Some(Expected::ForeignWord(joined_form(kind_behind(tokens, at)), own));
     }
     let before = at.checked_sub(1)?;
     let form = joined_form(kind_at(tokens, at));
-    Some(Wanted::ForeignWord(form, joined_at(text, tokens, before)?))
+    Some(Expected::ForeignWord(form, joined_at(text, tokens, before)?))
 }
 
 /// Whether a `=` stands behind two names, as of a type and its variable.
@@ -220,20 +224,20 @@ pub fn is_typed(tokens: &[Token<'_>], at: usize) -> bool {
 }
 
 /// The name of a type that a variable is declared of, where a `=` stands behind the variable.
-pub fn type_before<'t>(text: &'t [u8], tokens: &[Token<'_>], at: usize) -> Option<Wanted<'t>> {
+pub fn type_before<'t>(text: &'t [u8], tokens: &[Token<'_>], at: usize) -> Option<Expected<'t>> {
     if !is_typed(tokens, at) {
         return None;
     }
     let place = at.checked_sub(2)?;
     let name = name_at(text, tokens, place);
     if is_declared(tokens, place, name.name) {
-        return Some(Wanted::Form(Foreign::RecordValue));
+        return Some(Expected::Form(Foreign::RecordValue));
     }
     let variable = name_at(text, tokens, at.saturating_sub(1));
     if is_declared(tokens, place, variable.name) {
-        Some(Wanted::ForeignWord(Foreign::LabelColon, name))
+        Some(Expected::ForeignWord(Foreign::LabelColon, name))
     } else {
-        Some(Wanted::NoType(name))
+        Some(Expected::NoType(name))
     }
 }
 
@@ -258,7 +262,7 @@ fn begins_declaration(kind: Kind) -> bool {
 }
 
 /// The name that stands in front of a type or of a unit, and is none of the words that do.
-pub fn no_word<'t>(text: &'t [u8], tokens: &[Token<'_>], at: usize) -> Option<Wanted<'t>> {
+pub fn no_word<'t>(text: &'t [u8], tokens: &[Token<'_>], at: usize) -> Option<Expected<'t>> {
     let place = at.checked_sub(1)?;
     if !begins_declaration(kind_at(tokens, at)) || !is_at(tokens, place, Kind::Name) {
         return None;
@@ -269,37 +273,45 @@ pub fn no_word<'t>(text: &'t [u8], tokens: &[Token<'_>], at: usize) -> Option<Wa
     if is_declared(tokens, place, name.name) || is_second {
         None
     } else if matches!(kind_behind(tokens, at), Kind::Assign | Kind::Semicolon) {
-        Some(Wanted::Form(Foreign::TypeBehind))
+        Some(Expected::Form(Foreign::TypeBehind))
     } else {
-        Some(Wanted::NoWord(name))
+        Some(Expected::NoWord(name))
     }
 }
 
 /// A variable that is called as a function, in front of the `(` at `at`.
-pub fn called_variable<'t>(text: &'t [u8], tokens: &[Token<'_>], at: usize) -> Option<Wanted<'t>> {
+pub fn called_variable<'t>(
+    text: &'t [u8],
+    tokens: &[Token<'_>],
+    at: usize,
+) -> Option<Expected<'t>> {
     let place = at.checked_sub(1)?;
     let name = name_at(text, tokens, place);
     if is_declared(tokens, place, name.name) {
-        Some(Wanted::Index(name))
+        Some(Expected::Index(name))
     } else {
         None
     }
 }
 
 /// What a name in front of `(` or `{` is: the name of a proctype, or of one that is being declared.
-pub fn proctype_beside<'t>(text: &'t [u8], tokens: &[Token<'_>], at: usize) -> Option<Wanted<'t>> {
+pub fn proctype_beside<'t>(
+    text: &'t [u8],
+    tokens: &[Token<'_>],
+    at: usize,
+) -> Option<Expected<'t>> {
     if !is_before(tokens, at, 1, Kind::Name) {
         return None;
     }
     let name = name_at(text, tokens, at.saturating_sub(1));
     if is_before(tokens, at, 2, Kind::Proctype) {
-        return Some(Wanted::Parameters(name.name));
+        return Some(Expected::Parameters(name.name));
     }
     if !is_at(tokens, at, Kind::OpenParen) {
         return None;
     }
     match proctype_of(text, tokens, name.name) {
-        Some(proctype) => Some(Wanted::RunOf(proctype, name)),
+        Some(proctype) => Some(Expected::RunOf(proctype, name)),
         None => None,
     }
 }
@@ -310,7 +322,7 @@ pub fn near_at<'t>(
     text: &'t [u8],
     tokens: &[Token<'_>],
     at: usize,
-) -> Result<Option<Wanted<'t>>, AllocError> {
+) -> Result<Option<Expected<'t>>, AllocError> {
     if !matches!(kind_at(tokens, at), Kind::Name) {
         return Ok(None);
     }
@@ -319,7 +331,7 @@ pub fn near_at<'t>(
         return Ok(None);
     }
     match nearest_word(alloc, name.name)? {
-        Some(word) => Ok(Some(Wanted::Word(name, word))),
+        Some(word) => Ok(Some(Expected::Word(name, word))),
         None => Ok(None),
     }
 }
@@ -341,9 +353,9 @@ fn is_called(word: &[u8]) -> bool {
 }
 
 /// Whether a word may stand for the name directly in front of a token.
-fn may_be_meant(tokens: &[Token<'_>], at: usize, wanted: Option<Wanted<'_>>) -> bool {
+fn may_be_meant(tokens: &[Token<'_>], at: usize, wanted: Option<Expected<'_>>) -> bool {
     match wanted {
-        Some(Wanted::Word(_, word)) => !is_at(tokens, at, Kind::OpenParen) || is_called(word),
+        Some(Expected::Word(_, word)) => !is_at(tokens, at, Kind::OpenParen) || is_called(word),
         _ => false,
     }
 }
@@ -354,7 +366,7 @@ fn near_before<'t>(
     text: &'t [u8],
     tokens: &[Token<'_>],
     at: usize,
-) -> Result<Option<Wanted<'t>>, AllocError> {
+) -> Result<Option<Expected<'t>>, AllocError> {
     let Some(before) = at.checked_sub(1) else {
         return Ok(None);
     };
@@ -372,7 +384,7 @@ pub fn near_beside<'t>(
     text: &'t [u8],
     tokens: &[Token<'_>],
     at: usize,
-) -> Result<Option<Wanted<'t>>, AllocError> {
+) -> Result<Option<Expected<'t>>, AllocError> {
     match near_at(alloc, text, tokens, at)? {
         Some(wanted) => Ok(Some(wanted)),
         None => near_before(alloc, text, tokens, at),

@@ -9,15 +9,16 @@ use Rattle.prepare.specs.declared.TheConstants.{MOST_BYTES}
 use Rattle.prepare.specs.Written.{Written}
 use Rattle.prepare.specs.Stretches.{stretches}
 use Rattle.listed_values.specs.declared.course.Within.{Within}
-use Rattle.listed_values.specs.declared.course.Course.{Course}
-use Rattle.listed_values.specs.declared.changes.Change.{Change}
-use Rattle.listed_values.specs.declared.changes.Change.TheVariants as change
+use Rattle.listed_values.specs.declared.course.ListCourse.{ListCourse}
+use Rattle.listed_values.specs.declared.changes.ValueChange.{ValueChange}
+use Rattle.listed_values.specs.declared.changes.ValueChange.TheVariants as change
 use Rattle.listed_values.specs.Lists.{count_from, count_at, begins_list, are_same, size_at, behind_brace}
 use Rattle.listed_values.specs.Courses.{start, behind, declares, listed, outside, is_front, mode_of, within_behind}
 use Rattle.listed_values.specs.Settings.{setup_by, setup, as_setup, sets, is_mixed, settings, settings_at, starts_behind, is_odd}
 use Rattle.listed_values.specs.Changes.{changes_by, changes, change_within, change_at}
 use Rattle.listed_values.specs.Writing.{shown, written, valued, valued_of, unless_long}
-use Rattle.listed_values.specs.Laws.{owns, own, has_list_from, has_list}
+use Rattle.prepare.specs.Changed.{owns, own}
+use Rattle.listed_values.specs.Laws.{has_list_from, has_list}
 use Rattle.listed_values.proofs.Valuing.{owns_text}
 
 or_left : (a b : Bool) → (a || b) ≡ false → a ≡ false
@@ -57,7 +58,7 @@ either_none : (b : Bool) (n : ℕ) → n ≡ 0 → cond b n 0 ≡ 0
 either_none true n h = h
 either_none false n h = refl
 
-none_listed : (c : Course) (k : Kind) (i : Bool) (ts : List Written) → has_list_from i ts ≡ false → listed c k ts ≡ 0
+none_listed : (c : ListCourse) (k : Kind) (i : Bool) (ts : List Written) → has_list_from i ts ≡ false → listed c k ts ≡ 0
 none_listed c k i ts h = either_none (declares c k) (count_at ts) (none_counted i ts h)
 
 -- ---- nothing is set
@@ -66,7 +67,7 @@ unset_by : (n : ℕ) (b : Bool) (more : List ℕ) → n ≡ 0 → cond (nat_lt 0
 unset_by zero b more e = refl
 unset_by (suc n) b more e = cc
 
-none_set_by : (all : List Written) (c : Course) (set : List ℕ) (n : ℕ) (odd i : Bool) (ts : List Written) → has_list_from i ts ≡ false → (setup_by all c set n odd ts).set ≡ set
+none_set_by : (all : List Written) (c : ListCourse) (set : List ℕ) (n : ℕ) (odd i : Bool) (ts : List Written) → has_list_from i ts ≡ false → (setup_by all c set n odd ts).set ≡ set
 none_set_by all c set n odd i [] h = refl
 none_set_by all c set n odd i (t ∷ ts) h =
     let back = or_right (i && same_kind t.kind kind.OpenBrace) (has_list_from (same_kind t.kind kind.Assign) ts) h in
@@ -90,25 +91,25 @@ left_by zero zero w u e f = refl
 left_by zero (suc n) w u e f = cc
 left_by (suc l) n w u e f = cc
 
-kept_by : (l : ℕ) (x : Change) → l ≡ 0 → cond (nat_lt 0 l) x change.Kept ≡ change.Kept
+kept_by : (l : ℕ) (x : ValueChange) → l ≡ 0 → cond (nat_lt 0 l) x change.Kept ≡ change.Kept
 kept_by zero x e = refl
 kept_by (suc l) x e = cc
 
-left_none : (c : Course) (k : Kind) (ts : List Written) → c.within.left ≡ 0 → listed c k ts ≡ 0 → (within_behind c false k ts).left ≡ 0
+left_none : (c : ListCourse) (k : Kind) (ts : List Written) → c.within.left ≡ 0 → listed c k ts ≡ 0 → (within_behind c false k ts).left ≡ 0
 left_none c k ts e f =
     let n = listed c k ts in
     let w : Within = record { left = c.within.left - 1; count = c.within.count; mode = c.within.mode } in
     let u : Within = record { left = n * 2 + 5; count = n; mode = mode_of (is_front c.stage) (are_same (behind_brace ts)) false } in
     left_by c.within.left n w u e f
 
-written_is : (set : List ℕ) (c : Course) (i : Bool) (ts : List Written) → has_list_from i ts ≡ false → c.within.left ≡ 0 → written set (changes_by c false ts) ≡ owns (changes_by c false ts)
+written_is : (set : List ℕ) (c : ListCourse) (i : Bool) (ts : List Written) → has_list_from i ts ≡ false → c.within.left ≡ 0 → written set (changes_by c false ts) ≡ owns (changes_by c false ts)
 written_is set c i [] h e = refl
 written_is set c i (t ∷ ts) h e =
     let back = or_right (i && same_kind t.kind kind.OpenBrace) (has_list_from (same_kind t.kind kind.Assign) ts) h in
     let kept : change_at c false t.kind t.token ts ≡ change.Kept = kept_by c.within.left (change_within c.within ts) e in
     let left : (within_behind c false t.kind ts).left ≡ 0 = left_none c t.kind ts e (none_listed c t.kind (same_kind t.kind kind.Assign) ts back) in
     let rest = changes_by (behind c false t.kind t.token ts) false ts in
-    ap (λ (x : Change). (t.gap ++ shown set x t.token) ++ written set rest) kept
+    ap (λ (x : ValueChange). (t.gap ++ shown set x t.token) ++ written set rest) kept
     ∙ ap (λ (xs : List ℕ). (t.gap ++ t.token) ++ xs) (written_is set (behind c false t.kind t.token ts) (same_kind t.kind kind.Assign) ts back left)
 
 unless_same : (b : Bool) (made text : List ℕ) → made ≡ text → cond b text made ≡ text

@@ -1,4 +1,3 @@
-pub mod Changed
 pub mod Lists
 pub mod Courses
 pub mod Settings

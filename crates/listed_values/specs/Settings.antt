@@ -10,7 +10,7 @@ use Rattle.prepare.specs.Written.{Written}
 use Rattle.prepare.specs.Sizes as sizes
 use Rattle.declared_steps.specs.Stages.{begins_with}
 use Rattle.listed_values.specs.declared.lists.TheConstants.{MOST_VALUES}
-use Rattle.listed_values.specs.declared.course.Course.{Course}
+use Rattle.listed_values.specs.declared.course.ListCourse.{ListCourse}
 use Rattle.listed_values.specs.Lists.{count_at, size_at, are_same, behind_brace, nexts, front}
 use Rattle.listed_values.specs.Courses.{start, begins, listed, behind, is_early, is_placed}
 
@@ -32,11 +32,11 @@ abbrev pub declared : ℕ → Bool → ℕ
 declared n declares = if declares then min (n + 1) 2 else n
 
 -- whether a declaration that is made before the first step reads the name
-abbrev pub is_read : Course → Bool → Bool
+abbrev pub is_read : ListCourse → Bool → Bool
 is_read c declares = c.stage.reading.goes_on && (not declares && is_early c)
 
 -- whether the name is declared once, and read in no such declaration
-abbrev pub alone_from : List ℕ → Course → ℕ → List Written → Bool
+abbrev pub alone_from : List ℕ → ListCourse → ℕ → List Written → Bool
 alone_from name c n [] = n == 1
 alone_from name c n (t ∷ ts) =
     let is = is_name name t.kind t.token in
@@ -51,7 +51,7 @@ abbrev pub is_mixed : ℕ → List Written → Bool
 is_mixed n ts = nat_lt 0 n && not (are_same (behind_brace ts))
 
 -- whether the elements cannot be set at the first step: of a list elsewhere, of a large array, or of one whose name is declared twice or read before
-abbrev pub is_odd : Course → List ℕ → List Written → List Written → Bool
+abbrev pub is_odd : ListCourse → List ℕ → List Written → List Written → Bool
 is_odd c name all ts = not (is_placed c && (nat_lt 0 (size_at ts) && nat_lt (size_at ts) MOST_VALUES)) || not (is_alone name all)
 
 -- how many processes live at the start, at most two
@@ -70,7 +70,7 @@ pub record Setup : Type 0 where
 abbrev pub as_setup : List ℕ → ℕ → Bool → Setup
 as_setup set starts odd = record { set = set; starts = starts; is_odd = odd }
 
-abbrev pub setup_by : List Written → Course → List ℕ → ℕ → Bool → List Written → Setup
+abbrev pub setup_by : List Written → ListCourse → List ℕ → ℕ → Bool → List Written → Setup
 setup_by all c set n odd [] = as_setup set n odd
 setup_by all c set n odd (t ∷ ts) =
     let mixed = is_mixed (listed c t.kind ts) ts in

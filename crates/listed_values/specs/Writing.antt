@@ -7,9 +7,9 @@ use Rattle.pml_token.specs.Word.{same_kind}
 use Rattle.prepare.specs.declared.TheConstants.{MOST_BYTES}
 use Rattle.prepare.specs.Written.{Written}
 use Rattle.prepare.specs.Stretches.{stretches}
-use Rattle.listed_values.specs.declared.changes.Change.{Change}
-use Rattle.listed_values.specs.declared.changes.Change.TheVariants as change
-use Rattle.listed_values.specs.Changed.{Changed}
+use Rattle.listed_values.specs.declared.changes.ValueChange.{ValueChange}
+use Rattle.listed_values.specs.declared.changes.ValueChange.TheVariants as change
+use Rattle.prepare.specs.Changed.{Changed}
 use Rattle.listed_values.specs.Changes.{changes}
 use Rattle.listed_values.specs.Settings.{setup, sets}
 
@@ -17,24 +17,24 @@ use Rattle.listed_values.specs.Settings.{setup, sets}
 abbrev pub step : List ℕ → List ℕ
 step set = codes "d_step { " ++ (set ++ codes "}; ")
 
-abbrev pub shown : List ℕ → Change → List ℕ → List ℕ
+abbrev pub shown : List ℕ → ValueChange → List ℕ → List ℕ
 shown set change.Kept t = t
 shown set change.Blanked t = codes " "
 shown set change.Ended t = codes ";"
 shown set change.Headed t = step set ++ t
 
-abbrev pub one : List ℕ → Changed → List ℕ
+abbrev pub one : List ℕ → Changed ValueChange → List ℕ
 one set c = c.gap ++ shown set c.change c.token
 
-abbrev pub written : List ℕ → List Changed → List ℕ
+abbrev pub written : List ℕ → List (Changed ValueChange) → List ℕ
 written set cs = flat_map (one set) cs
 
-abbrev pub is_blanked : Change → Bool
+abbrev pub is_blanked : ValueChange → Bool
 is_blanked change.Blanked = true
 is_blanked _ = false
 
 -- whether a token is the `=` of a list that a step sets
-abbrev pub is_sign : Changed → Bool
+abbrev pub is_sign : Changed ValueChange → Bool
 is_sign c = is_blanked c.change && same_kind c.kind kind.Assign
 
 abbrev pub unless_long : List ℕ → List ℕ → List ℕ

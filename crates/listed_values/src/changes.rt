@@ -3,16 +3,16 @@
 ghost use Rattle.std.specs.Prelude.{◌≡◌, IfOk};
 ghost use Rattle.listed_values.specs.Changes as changes;
 
-use crate::course::{Course, Mode, Within};
+use crate::course::{ListCourse, ListMode, Within};
 use crate::lists::begins_with;
 use pml_token::token::Kind;
+use prepare::changed::Changed;
 use prepare::stretch::Stretch;
 use std::alloc::{AllocError, Global};
-use std::marker::Model;
 
 /// What becomes of a token.
 #[derive(Clone, Copy)]
-pub enum Change {
+pub enum ValueChange {
     /// It stays.
     Kept,
     /// A blank stands for it.
@@ -23,95 +23,54 @@ pub enum Change {
     Headed,
 }
 
-/// A token, with what becomes of it.
-#[derive(Drop)]
-pub struct Changed<'t> {
-    gap: &'t [u8],
-    token: &'t [u8],
-    kind: Kind,
-    change: Change,
-}
-
-impl<'t> Model for Changed<'t> {
-    ghost use Rattle.listed_values.specs.Changed.{Changed as Seen};
-
-    ghost Value = { Seen };
-
-    ghost view = { λ c. record { gap = c.gap.now; token = c.token.now; kind = c.kind; change = c.change } };
-}
-
-impl<'t> Changed<'t> {
-    /// The blanks and comments before the token.
-    pub fn gap(&self) -> &'t [u8]
-        ensures { result.now ≡ self.now.gap }
-    {
-        self.gap
-    }
-
-    /// The token.
-    pub fn token(&self) -> &'t [u8]
-        ensures { result.now ≡ self.now.token }
-    {
-        self.token
-    }
-
-    /// What it is.
-    pub fn kind(&self) -> Kind
-        ensures { result ≡ self.now.kind }
-    {
-        self.kind
-    }
-
-    /// What becomes of it.
-    pub fn change(&self) -> Change
-        ensures { result ≡ self.now.change }
-    {
-        self.change
-    }
-}
-
 // Whether a token of a list of so many values does not stay.
-fn is_blank(mode: Mode, count: u32, left: u32) -> bool
+fn is_blank(mode: ListMode, count: u32, left: u32) -> bool
     ensures { result ≡ changes.is_blank mode count left }
 {
     let values = u64::from(count) * 2;
     let left = u64::from(left);
     match mode {
-        Mode::Left => false,
-        Mode::Same => left <= values + 1 && left != values,
-        Mode::Set => left <= values + 2,
+        ListMode::Left => false,
+        ListMode::Same => left <= values + 1 && left != values,
+        ListMode::Set => left <= values + 2,
     }
 }
 
-fn change_of_blank(is_last: bool, back: &[Stretch<'_>]) -> Change
+fn change_of_blank(is_last: bool, back: &[Stretch<'_>]) -> ValueChange
     ensures { result ≡ changes.change_of_blank is_last back.now }
 {
     if is_last && !begins_with(Kind::Semicolon, back) {
-        Change::Ended
+        ValueChange::Ended
     } else {
-        Change::Blanked
+        ValueChange::Blanked
     }
 }
 
-fn change_within(within: Within, back: &[Stretch<'_>]) -> Change
+fn change_within(within: Within, back: &[Stretch<'_>]) -> ValueChange
     ensures { result ≡ changes.change_within within back.now }
 {
     if is_blank(within.mode, within.count, within.left) {
         change_of_blank(within.left == 1, back)
     } else {
-        Change::Kept
+        ValueChange::Kept
     }
 }
 
-fn change_at(course: Course, is_set: bool, kind: Kind, token: &[u8], back: &[Stretch<'_>]) -> Change
+fn change_at(
+    course: ListCourse,
+    is_set: bool,
+    kind: Kind,
+    token: &[u8],
+    back: &[Stretch<'_>],
+) -> ValueChange
     ensures { result ≡ changes.change_at course is_set kind token.now back.now }
 {
     if course.within.left > 0 {
         change_within(course.within, back)
     } else if is_set && course.is_first(kind, token, back) {
-        Change::Headed
+        ValueChange::Headed
     } else {
-        Change::Kept
+        ValueChange::Kept
     }
 }
 
@@ -120,21 +79,16 @@ pub fn changes<'t>(
     alloc: Global,
     is_set: bool,
     stretches: &[Stretch<'t>],
-) -> Result<Vec<Changed<'t>>, AllocError>
+) -> Result<Vec<Changed<'t, ValueChange>>, AllocError>
     ensures { IfOk result (λ v. v.items ≡ changes.changes is_set stretches.now) }
 {
     let mut out = Vec::new(alloc);
-    let mut course = Course::start();
+    let mut course = ListCourse::start();
     let mut rest = stretches;
     while let [stretch, back @ ..] = rest {
         let kind = stretch.kind();
         let token = stretch.token();
-        out.push(Changed {
-            gap: stretch.gap(),
-            token,
-            kind,
-            change: change_at(course, is_set, kind, token, back),
-        })?;
+        out.push(Changed::new(stretch, change_at(course, is_set, kind, token, back)))?;
         course = course.behind(is_set, kind, token, back);
         rest = back;
     }

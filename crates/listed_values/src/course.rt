@@ -6,7 +6,7 @@ ghost use Rattle.declared_steps.specs.Stages.{is_type, type_behind};
 ghost use Rattle.listed_values.specs.Courses as courses;
 
 use crate::lists::{are_same, behind_brace, count_at};
-use declared_steps::stage::Stage;
+use declared_steps::stage::DeclarationStage;
 use pml_token::token::{Kind, same_kind};
 use prepare::stretch::Stretch;
 
@@ -21,7 +21,7 @@ pub enum Home {
 
 /// What becomes of a list of initialisers.
 #[derive(Clone, Copy)]
-pub enum Mode {
+pub enum ListMode {
     /// It stays.
     Left,
     /// Its values are the same, and one stays.
@@ -37,13 +37,13 @@ pub struct Within {
     pub left: u32,
     /// How many values it has.
     pub count: u32,
-    pub mode: Mode,
+    pub mode: ListMode,
 }
 
 /// Where a token stands.
 #[derive(Clone, Copy)]
-pub struct Course {
-    pub stage: Stage,
+pub struct ListCourse {
+    pub stage: DeclarationStage,
     pub home: Home,
     pub within: Within,
 }
@@ -56,7 +56,7 @@ impl Within {
         Within {
             left: 0,
             count: 0,
-            mode: Mode::Left,
+            mode: ListMode::Left,
         }
     }
 
@@ -69,22 +69,22 @@ impl Within {
 }
 
 // What becomes of a list: whether it stands at the front, whether its values are the same, and whether others are set by a step.
-fn mode_of(is_front: bool, are_same: bool, is_set: bool) -> Mode
+fn mode_of(is_front: bool, are_same: bool, is_set: bool) -> ListMode
     ensures { result ≡ courses.mode_of is_front are_same is_set }
 {
     if !is_front {
-        Mode::Left
+        ListMode::Left
     } else if are_same {
-        Mode::Same
+        ListMode::Same
     } else if is_set {
-        Mode::Set
+        ListMode::Set
     } else {
-        Mode::Left
+        ListMode::Left
     }
 }
 
 // Whether a declaration is a global one, or stands at the beginning of a body.
-fn is_front(stage: Stage) -> bool
+fn is_front(stage: DeclarationStage) -> bool
     ensures { result ≡ courses.is_front stage }
 {
     stage.braces == 0 || (stage.braces == 1 && !(stage.is_inline || stage.is_behind))
@@ -115,7 +115,7 @@ fn is_type(kind: Kind) -> bool
 }
 
 // The type of a name that a token declares.
-fn word_of(stage: Stage, kind: Kind) -> Kind
+fn word_of(stage: DeclarationStage, kind: Kind) -> Kind
     ensures { result ≡ type_behind stage kind }
 {
     if stage.is_first(kind) {
@@ -125,7 +125,7 @@ fn word_of(stage: Stage, kind: Kind) -> Kind
     }
 }
 
-fn ends_body(stage: Stage, kind: Kind) -> bool
+fn ends_body(stage: DeclarationStage, kind: Kind) -> bool
     ensures { result ≡ courses.ends_body stage kind }
 {
     same_kind(kind, Kind::CloseBrace) && stage.braces < 2
@@ -162,13 +162,13 @@ impl Home {
     }
 }
 
-impl Course {
+impl ListCourse {
     /// The beginning of a text.
-    pub fn start() -> Course
+    pub fn start() -> ListCourse
         ensures { result ≡ courses.start }
     {
-        Course {
-            stage: Stage::start(),
+        ListCourse {
+            stage: DeclarationStage::start(),
             home: Home::Outside,
             within: Within::outside(),
         }
@@ -215,7 +215,7 @@ impl Course {
     }
 
     // The braces of a list are no block: behind them a declaration ends.
-    fn stage_behind(self, kind: Kind, token: &[u8], back: &[Stretch<'_>]) -> Stage
+    fn stage_behind(self, kind: Kind, token: &[u8], back: &[Stretch<'_>]) -> DeclarationStage
         ensures { result ≡ courses.stage_behind self kind token.now back.now }
     {
         if !self.within.is_braced() {
@@ -235,10 +235,10 @@ impl Course {
     }
 
     /// Behind a token, before these stretches, where lists of different values are set by a step or stay.
-    pub fn behind(self, is_set: bool, kind: Kind, token: &[u8], back: &[Stretch<'_>]) -> Course
+    pub fn behind(self, is_set: bool, kind: Kind, token: &[u8], back: &[Stretch<'_>]) -> ListCourse
         ensures { result ≡ courses.behind self is_set kind token.now back.now }
     {
-        Course {
+        ListCourse {
             stage: self.stage_behind(kind, token, back),
             home: self.home.behind(self.ends(kind), kind),
             within: self.within_behind(is_set, kind, back),

@@ -3,7 +3,7 @@
 ghost use Rattle.std.specs.Prelude.{◌≡◌, ◌++◌, IfOk, OnOk};
 ghost use Rattle.listed_values.specs.Settings as settings;
 
-use crate::course::{Course, begins};
+use crate::course::{ListCourse, begins};
 use crate::lists::{MOST_VALUES, are_same, begins_with, behind_brace, front, next, size_at};
 use itoa::Buffer;
 use pml_token::token::{Kind, same_kind};
@@ -59,7 +59,7 @@ fn declared(count: u32, declares: bool) -> u32
 }
 
 // Whether a declaration that is made before the first step reads the name.
-fn is_read(course: Course, declares: bool) -> bool
+fn is_read(course: ListCourse, declares: bool) -> bool
     ensures { result ≡ settings.is_read course declares }
 {
     course.stage.reading.goes_on && (!declares && course.is_early())
@@ -69,7 +69,7 @@ fn is_read(course: Course, declares: bool) -> bool
 fn is_alone(name: &[u8], stretches: &[Stretch<'_>]) -> bool
     ensures { result ≡ settings.is_alone name.now stretches.now }
 {
-    let mut course = Course::start();
+    let mut course = ListCourse::start();
     let mut count = 0;
     let mut rest = stretches;
     while let [stretch, back @ ..] = rest {
@@ -95,7 +95,7 @@ fn is_mixed(count: u32, back: &[Stretch<'_>]) -> bool
 }
 
 // Whether the elements cannot be set at the first step.
-fn is_odd(course: Course, name: &[u8], all: &[Stretch<'_>], back: &[Stretch<'_>]) -> bool
+fn is_odd(course: ListCourse, name: &[u8], all: &[Stretch<'_>], back: &[Stretch<'_>]) -> bool
     ensures { result ≡ settings.is_odd course name.now all.now back.now }
 {
     let size = size_at(back);
@@ -144,7 +144,7 @@ pub fn setup_of(alloc: Global, stretches: &[Stretch<'_>]) -> Result<Setup, Alloc
     let mut set: Vec<u8> = Vec::new(alloc);
     let mut starts = 0;
     let mut odd = false;
-    let mut course = Course::start();
+    let mut course = ListCourse::start();
     let mut rest = stretches;
     while let [stretch, back @ ..] = rest {
         let kind = stretch.kind();

@@ -4,7 +4,7 @@ use Rattle.std.specs.Str.{bytes_eq}
 use Rattle.serde_json.specs.Data.{Data, null}
 use Rattle.lsp_results.specs.declared.page.Page.{Page}
 use Rattle.lsp_results.specs.Lines.{AreFolds}
-use Rattle.lsp_answers.specs.declared.colours.Extent.{Extent}
+use Rattle.lsp_answers.specs.declared.colours.AskedExtent.{AskedExtent}
 use Rattle.lsp_answers.specs.declared.aids.Aid.{Aid}
 use Rattle.lsp_answers.specs.declared.aids.Aid.TheVariants.{Colours, Folds, Completion, Signature, Remedies}
 use Rattle.lsp_answers.specs.Colours.{extent_of, AreTold}
@@ -12,7 +12,7 @@ use Rattle.lsp_answers.specs.Completions.{IsCompleted}
 use Rattle.lsp_answers.specs.Remedies.{AreRemedies}
 use Rattle.lsp_answers.specs.Signatures.{IsSigned}
 
-abbrev pub coloured_by : Option Extent → Option Aid
+abbrev pub coloured_by : Option AskedExtent → Option Aid
 coloured_by None = None
 coloured_by (Some e) = Some (Colours e)
 

@@ -3,8 +3,8 @@ use Rattle.std.specs.Prelude.{◌≡◌, ℕ, ℤ, nat_eq, Bool, not, if◌then�
 use Rattle.std.specs.Option.{option_map_or}
 use Rattle.serde_json.specs.Data.{Data, string, object, member, no_members}
 use Rattle.serde_json.specs.Find.{get, as_str, pointer}
-use Rattle.lsp_answers.specs.declared.replies.Fault.{Fault}
-use Rattle.lsp_answers.specs.declared.replies.Fault.TheVariants.{NoRequest, NotInitialized, ShutDown, NoMethod}
+use Rattle.lsp_answers.specs.declared.replies.RequestFault.{RequestFault}
+use Rattle.lsp_answers.specs.declared.replies.RequestFault.TheVariants.{NoRequest, NotInitialized, ShutDown, NoMethod}
 
 -- the number by which a request is known, or its text; a notification has none
 abbrev pub id_of : Data → Option Data
@@ -24,7 +24,7 @@ RepliesTo message None = id_of message ≡ None
 RepliesTo message (Some reply) = (id : Data) × (id_of message ≡ Some id) × (id_of reply ≡ Some id)
 
 -- what stands in the way of an answer to a request of this method
-abbrev pub fault_by : List ℕ → Bool → Bool → Fault
+abbrev pub fault_by : List ℕ → Bool → Bool → RequestFault
 fault_by m is_ready is_shut =
     if nat_eq (length m) 0 then NoRequest else if not is_ready then NotInitialized else if is_shut then ShutDown else NoMethod
 

@@ -4,9 +4,9 @@ use Rattle.std.specs.Option.{option_map_or}
 use Rattle.std.specs.Str.{bytes_eq}
 use Rattle.serde_json.specs.Data.{Data, null}
 use Rattle.serde_json.specs.Find.{get, as_bool}
-use Rattle.text_parts.specs.declared.places.Unit as counting
+use Rattle.text_parts.specs.declared.places.ColumnUnit as counting
 use Rattle.text_parts.specs.Offsets.{offset_of}
-use Rattle.model_names.specs.declared.names.Names.{Names}
+use Rattle.model_names.specs.declared.names.TextNames.{TextNames}
 use Rattle.model_names.specs.Told.{AreMeant}
 use Rattle.model_names.specs.Found.{name_at}
 use Rattle.lsp_results.specs.declared.page.Page.{Page}
@@ -44,7 +44,7 @@ abbrev pub has_declaration : Data → Bool
 has_declaration ps = option_map_or (λ b. b) (option_and_then as_bool (option_and_then (get (codes "includeDeclaration")) (get (codes "context") ps))) true
 
 -- what is told of the name at a place
-abbrev pub IsTold : Question → Page → Names → Data → ℕ → Data → Type 0
+abbrev pub IsTold : Question → Page → TextNames → Data → ℕ → Data → Type 0
 IsTold Definition page names ps at d = IsDefinition page names (name_at names at) d
 IsTold References page names ps at d = AreReferences page names (has_declaration ps) (name_at names at) d
 IsTold Highlights page names ps at d = AreHighlights page names (name_at names at) d
@@ -53,28 +53,28 @@ IsTold Target page names ps at d = IsTarget page names at d
 IsTold q page names ps at d = d ≡ null
 
 -- of the name at the place that a request names
-pub record IsToldThere (q : Question) (page : Page) (names : Names) (ps d : Data) : Type 0 where
+pub record IsToldThere (q : Question) (page : Page) (names : TextNames) (ps d : Data) : Type 0 where
   pub at : ℕ
   pub is_asked : offset_in page ps ≡ Some at
   pub told : IsTold q page names ps at d
 
-abbrev pub IsToldAt : Question → Page → Names → Data → Data → Type 0
+abbrev pub IsToldAt : Question → Page → TextNames → Data → Data → Type 0
 IsToldAt Rename page names ps d = IsRename page (text_in (codes "newName") ps) d
 IsToldAt q page names ps d = IsToldThere q page names ps d
 
 -- of a text with these names
-abbrev pub IsToldOf : Question → Page → Names → Data → Data → Type 0
+abbrev pub IsToldOf : Question → Page → TextNames → Data → Data → Type 0
 IsToldOf Symbols page names ps d = d ≡ symbols_of page names
 IsToldOf q page names ps d = IsToldAt q page names ps d
 
 -- What is answered to a question on a text: by its names, and nothing where it has none.
 pub data IsAnswer (q : Question) (page : Page) (m d : Data) : Type 0 where
   nothing : d ≡ null → IsAnswer q page m d
-  by_names : (ps : Data) (names : Names) → get (codes "params") m ≡ Some ps
+  by_names : (ps : Data) (names : TextNames) → get (codes "params") m ≡ Some ps
       → AreMeant page.text.now names.meant.items → IsToldOf q page names ps d → IsAnswer q page m d
 
 -- A text that is open is asked of as its editor knows it.
-pub record IsAnswerOn (q : Question) (d : Document) (u : counting.Unit) (m v : Data) : Type 0 where
+pub record IsAnswerOn (q : Question) (d : Document) (u : counting.ColumnUnit) (m v : Data) : Type 0 where
   pub page : Page
   pub text_is : page.text.now ≡ d.known
   pub uri_is : page.uri.now ≡ string_bytes d.uri

@@ -5,11 +5,11 @@ ghost use Rattle.serde_json.specs.View.{view};
 ghost use Rattle.lsp_answers.specs.Colours.{extent_of};
 ghost use Rattle.lsp_answers.specs.Aids.{aid_of, coloured_by, IsAid};
 
-use crate::colours::{Extent, colours};
+use crate::colours::{AskedExtent, colours};
 use crate::completions::completed;
 use crate::folds::folds;
 use crate::remedies::remedies;
-use crate::replies::Fault;
+use crate::replies::RequestFault;
 use crate::signatures::signed;
 use lsp_results::page::Page;
 use serde_json::Value;
@@ -19,7 +19,7 @@ use std::alloc::{AllocError, Global};
 #[derive(Clone, Copy, Debug, PartialEq, Eq)]
 pub enum Aid {
     /// What each token is.
-    Colours(Extent),
+    Colours(AskedExtent),
     /// The parts that are folded.
     Folds,
     /// What may be typed at a place.
@@ -31,7 +31,7 @@ pub enum Aid {
 }
 
 /// Colours, if they are asked of a part of a text.
-fn coloured_by(extent: Option<Extent>) -> Option<Aid>
+fn coloured_by(extent: Option<AskedExtent>) -> Option<Aid>
     ensures { result ≡ coloured_by extent }
 {
     match extent {
@@ -50,7 +50,7 @@ impl Aid {
             "textDocument/completion" => Some(Aid::Completion),
             "textDocument/signatureHelp" => Some(Aid::Signature),
             "textDocument/codeAction" => Some(Aid::Remedies),
-            _ => coloured_by(Extent::of(method)),
+            _ => coloured_by(AskedExtent::of(method)),
         }
     }
 }
@@ -61,7 +61,7 @@ pub fn aided(
     page: Page<'_>,
     aid: Aid,
     message: &Value,
-) -> Result<Result<Value, Fault>, AllocError>
+) -> Result<Result<Value, RequestFault>, AllocError>
     ensures { IfOk result (λ r. IfOk r (λ v. IsAid aid page.entry (view message.now) (view v))) }
 {
     match aid {

@@ -9,18 +9,18 @@ ghost use Rattle.lsp_answers.specs.Questions.{offset_in, has_declaration, IsTold
 
 use crate::documents::Document;
 use crate::questions::Question;
-use crate::replies::Fault;
+use crate::replies::RequestFault;
 use lsp_results::asked::{place_in, text_in};
 use lsp_results::hover::hover;
 use lsp_results::page::Page;
 use lsp_results::places::{definition, highlights, references};
 use lsp_results::renames::{rename, target};
 use lsp_results::symbols::symbols;
-use model_names::Names;
+use model_names::TextNames;
 use model_verdicts::renaming::NoRenaming;
 use serde_json::Value;
 use std::alloc::{AllocError, Global};
-use text_parts::{Unit, offset_of};
+use text_parts::{ColumnUnit, offset_of};
 
 /// The place of a text that a request asks of.
 pub fn offset_in(page: Page<'_>, parameters: &Value) -> Option<usize>
@@ -52,7 +52,7 @@ fn has_declaration(parameters: &Value) -> bool
 fn told(
     alloc: Global,
     page: Page<'_>,
-    names: &Names,
+    names: &TextNames,
     question: Question,
     offset: usize,
     parameters: &Value,
@@ -75,16 +75,16 @@ fn told(
 fn renamed(
     alloc: Global,
     page: Page<'_>,
-    names: &Names,
+    names: &TextNames,
     offset: usize,
     name: &str,
-) -> Result<Result<Value, Fault>, AllocError>
+) -> Result<Result<Value, RequestFault>, AllocError>
     requires { AreMeant page.text.now names.now.meant.items }
     ensures { IfOk result (λ r. IfOk r (λ v. IsRename page.entry name.now (view v))) }
 {
     match rename(alloc, page, names, offset, name)? {
         Ok(edits) => Ok(Ok(edits)),
-        Err(why) => Ok(Err(Fault::NoRenaming(why))),
+        Err(why) => Ok(Err(RequestFault::NoRenaming(why))),
     }
 }
 
@@ -92,15 +92,15 @@ fn renamed(
 fn told_at(
     alloc: Global,
     page: Page<'_>,
-    names: &Names,
+    names: &TextNames,
     question: Question,
     parameters: &Value,
-) -> Result<Result<Value, Fault>, AllocError>
+) -> Result<Result<Value, RequestFault>, AllocError>
     requires { AreMeant page.text.now names.now.meant.items }
     ensures { IfOk result (λ r. IfOk r (λ v. IsToldAt question page.entry names.now (view parameters.now) (view v))) }
 {
     let Some(offset) = offset_in(page, parameters) else {
-        return Ok(Err(Fault::NoPlace));
+        return Ok(Err(RequestFault::NoPlace));
     };
     match question {
         Question::Rename => renamed(alloc, page, names, offset, text_in(parameters, "newName")),
@@ -112,10 +112,10 @@ fn told_at(
 fn told_of(
     alloc: Global,
     page: Page<'_>,
-    names: &Names,
+    names: &TextNames,
     question: Question,
     parameters: &Value,
-) -> Result<Result<Value, Fault>, AllocError>
+) -> Result<Result<Value, RequestFault>, AllocError>
     requires { AreMeant page.text.now names.now.meant.items }
     ensures { IfOk result (λ r. IfOk r (λ v. IsToldOf question page.entry names.now (view parameters.now) (view v))) }
 {
@@ -126,11 +126,11 @@ fn told_of(
 }
 
 /// What is answered to a question on a text whose tokens spell no tree.
-fn without_names(question: Question) -> Result<Value, Fault>
+fn without_names(question: Question) -> Result<Value, RequestFault>
     ensures { IfOk result (λ v. view v ≡ null) }
 {
     match question {
-        Question::Rename => Err(Fault::NoRenaming(NoRenaming::NoModel)),
+        Question::Rename => Err(RequestFault::NoRenaming(NoRenaming::NoModel)),
         _ => Ok(Value::Null),
     }
 }
@@ -139,14 +139,14 @@ fn without_names(question: Question) -> Result<Value, Fault>
 pub fn answer(
     alloc: Global,
     document: &Document,
-    unit: Unit,
+    unit: ColumnUnit,
     question: Question,
     message: &Value,
-) -> Result<Result<Value, Fault>, AllocError>
+) -> Result<Result<Value, RequestFault>, AllocError>
     ensures { IfOk result (λ r. IfOk r (λ v. IsAnswerOn question document.now unit (view message.now) (view v))) }
 {
     let Some(parameters) = message.get("params") else {
-        return Ok(Err(Fault::NoPlace));
+        return Ok(Err(RequestFault::NoPlace));
     };
     let page = document.page(unit);
     match document.known.names() {

@@ -5,7 +5,7 @@ ghost use Rattle.serde_json.specs.View.{view};
 ghost use Rattle.lsp_answers.specs.Completions.{offset_asked, IsCompleted};
 
 use crate::answers::offset_in;
-use crate::replies::Fault;
+use crate::replies::RequestFault;
 use lsp_completions::completion;
 use lsp_results::page::Page;
 use serde_json::Value;
@@ -26,11 +26,11 @@ pub fn completed(
     alloc: Global,
     page: Page<'_>,
     message: &Value,
-) -> Result<Result<Value, Fault>, AllocError>
+) -> Result<Result<Value, RequestFault>, AllocError>
     ensures { IfOk result (λ r. IfOk r (λ v. IsCompleted page.entry (view message.now) (view v))) }
 {
     match offset_asked(page, message) {
         Some(offset) => Ok(Ok(completion(alloc, page, offset)?)),
-        None => Ok(Err(Fault::NoPlace)),
+        None => Ok(Err(RequestFault::NoPlace)),
     }
 }

@@ -9,7 +9,7 @@ use lsp_results::page::Page;
 use model_names::KeptNames;
 use serde_json::Value;
 use std::alloc::{AllocError, Global};
-use text_parts::Unit;
+use text_parts::ColumnUnit;
 
 /// So many texts are kept at most; of more the one that was opened or changed longest ago is let go.
 const MOST_DOCUMENTS: usize = 256;
@@ -34,7 +34,7 @@ impl Document {
     }
 
     /// The text as its editor knows it.
-    pub fn page(&self, unit: Unit) -> Page<'_>
+    pub fn page(&self, unit: ColumnUnit) -> Page<'_>
         ensures text { result.text.now ≡ self.now.known }
         ensures uri { result.uri.now ≡ string_bytes self.now.uri }
         ensures unit { result.unit ≡ unit }
@@ -50,7 +50,7 @@ impl Document {
     fn behind(
         self,
         alloc: Global,
-        unit: Unit,
+        unit: ColumnUnit,
         version: Option<i64>,
         changes: &[Value],
     ) -> Result<Document, AllocError>
@@ -154,7 +154,7 @@ impl Documents {
     pub fn change(
         &mut self,
         alloc: Global,
-        unit: Unit,
+        unit: ColumnUnit,
         uri: &str,
         version: Option<i64>,
         changes: &[Value],

@@ -11,7 +11,7 @@ use std::alloc::{AllocError, Global};
 
 /// Why a request is not answered.
 #[derive(Clone, Copy, Debug, PartialEq, Eq)]
-pub enum Fault {
+pub enum RequestFault {
     /// It has no method.
     NoRequest,
     /// It came before `initialize`.
@@ -39,27 +39,27 @@ fn reason(why: NoRenaming) -> &'static str {
     }
 }
 
-impl Fault {
+impl RequestFault {
     fn code(self) -> i64 {
         match self {
-            Fault::NoRequest => -32600,
-            Fault::NotInitialized => -32002,
-            Fault::ShutDown => -32600,
-            Fault::NoMethod => -32601,
-            Fault::NotOpen | Fault::NoPlace => -32602,
-            Fault::NoRenaming(_) => -32803,
+            RequestFault::NoRequest => -32600,
+            RequestFault::NotInitialized => -32002,
+            RequestFault::ShutDown => -32600,
+            RequestFault::NoMethod => -32601,
+            RequestFault::NotOpen | RequestFault::NoPlace => -32602,
+            RequestFault::NoRenaming(_) => -32803,
         }
     }
 
     fn words(self) -> &'static str {
         match self {
-            Fault::NoRequest => "no request",
-            Fault::NotInitialized => "not initialized",
-            Fault::ShutDown => "shut down",
-            Fault::NoMethod => "no such method",
-            Fault::NotOpen => "not open",
-            Fault::NoPlace => "no place",
-            Fault::NoRenaming(why) => reason(why),
+            RequestFault::NoRequest => "no request",
+            RequestFault::NotInitialized => "not initialized",
+            RequestFault::ShutDown => "shut down",
+            RequestFault::NoMethod => "no such method",
+            RequestFault::NotOpen => "not open",
+            RequestFault::NoPlace => "no place",
+            RequestFault::NoRenaming(why) => reason(why),
         }
     }
 }
@@ -72,7 +72,7 @@ pub fn reply(alloc: Global, id: &Value, what: &Value) -> Result<Value, AllocErro
 }
 
 /// The reply to the request with this id, that it is not answered.
-pub fn refused(alloc: Global, id: &Value, fault: Fault) -> Result<Value, AllocError>
+pub fn refused(alloc: Global, id: &Value, fault: RequestFault) -> Result<Value, AllocError>
     ensures { IfOk result (λ v. get (codes "id") (view v) ≡ Some (view id.now)) }
 {
     let code = fault.code();

@@ -10,26 +10,26 @@ use crate::answers::answer;
 use crate::documents::Documents;
 use crate::fields::{lists, text_at};
 use crate::questions::Question;
-use crate::replies::{Fault, refused, reply};
+use crate::replies::{RequestFault, refused, reply};
 use crate::told::{told_nothing, told_of};
 use lsp_results::tokens::legend;
 use serde_json::{Value, json};
 use std::alloc::{AllocError, Global};
-use text_parts::Unit;
+use text_parts::ColumnUnit;
 
 /// A server of one client.
 #[derive(Drop)]
 pub struct Server {
     documents: Documents,
-    unit: Unit,
+    unit: ColumnUnit,
     is_ready: bool,
     is_shut: bool,
 }
 
-fn capabilities(alloc: Global, unit: Unit) -> Result<Value, AllocError> {
+fn capabilities(alloc: Global, unit: ColumnUnit) -> Result<Value, AllocError> {
     let encoding = match unit {
-        Unit::Utf8 => "utf-8",
-        Unit::Utf16 => "utf-16",
+        ColumnUnit::Utf8 => "utf-8",
+        ColumnUnit::Utf16 => "utf-16",
     };
     let legend = legend(alloc)?;
     json!(in alloc; {
@@ -57,7 +57,7 @@ impl Server {
     pub fn new(alloc: Global) -> Server {
         Server {
             documents: Documents::new(alloc),
-            unit: Unit::Utf16,
+            unit: ColumnUnit::Utf16,
             is_ready: false,
             is_shut: false,
         }
@@ -81,22 +81,22 @@ impl Server {
             "/params/capabilities/general/positionEncodings",
             "utf-8",
         ) {
-            self.unit = Unit::Utf8;
+            self.unit = ColumnUnit::Utf8;
         }
     }
 
     // What stands in the way of an answer.
-    fn fault_of(&self, method: &str) -> Fault
+    fn fault_of(&self, method: &str) -> RequestFault
         ensures { result ≡ fault_by method.now self.now.is_ready self.now.is_shut }
     {
         if method.is_empty() {
-            Fault::NoRequest
+            RequestFault::NoRequest
         } else if !self.is_ready {
-            Fault::NotInitialized
+            RequestFault::NotInitialized
         } else if self.is_shut {
-            Fault::ShutDown
+            RequestFault::ShutDown
         } else {
-            Fault::NoMethod
+            RequestFault::NoMethod
         }
     }
 
@@ -142,7 +142,7 @@ impl Server {
         let uri = text_at(message, "/params/textDocument/uri");
         self.documents.read(alloc, uri)?;
         let Some(document) = self.documents.find(uri) else {
-            return refused(alloc, id, Fault::NotOpen);
+            return refused(alloc, id, RequestFault::NotOpen);
         };
         match answer(alloc, document, self.unit, question, message)? {
             Ok(what) => reply(alloc, id, &what),
@@ -162,7 +162,7 @@ impl Server {
     {
         let uri = text_at(message, "/params/textDocument/uri");
         let Some(document) = self.documents.find(uri) else {
-            return refused(alloc, id, Fault::NotOpen);
+            return refused(alloc, id, RequestFault::NotOpen);
         };
         match aided(alloc, document.page(self.unit), aid, message)? {
             Ok(what) => reply(alloc, id, &what),

@@ -5,7 +5,7 @@ ghost use Rattle.serde_json.specs.View.{view};
 ghost use Rattle.lsp_answers.specs.Signatures.{IsSigned};
 
 use crate::completions::offset_asked;
-use crate::replies::Fault;
+use crate::replies::RequestFault;
 use lsp_results::page::Page;
 use lsp_results::signatures::signature;
 use serde_json::Value;
@@ -16,11 +16,11 @@ pub fn signed(
     alloc: Global,
     page: Page<'_>,
     message: &Value,
-) -> Result<Result<Value, Fault>, AllocError>
+) -> Result<Result<Value, RequestFault>, AllocError>
     ensures { IfOk result (λ r. IfOk r (λ v. IsSigned page.entry (view message.now) (view v))) }
 {
     match offset_asked(page, message) {
         Some(offset) => Ok(Ok(signature(alloc, page, offset)?)),
-        None => Ok(Err(Fault::NoPlace)),
+        None => Ok(Err(RequestFault::NoPlace)),
     }
 }

@@ -12,7 +12,7 @@ use model_verdicts::{Verdict, verdicts_of};
 use serde_json::{Value, json};
 use source_lines::position::shown_offset;
 use std::alloc::{AllocError, Global};
-use text_parts::Unit;
+use text_parts::ColumnUnit;
 
 /// A part of a text of one byte at least.
 fn part(alloc: Global, page: Page<'_>, offset: usize, length: usize) -> Result<Value, AllocError>
@@ -73,7 +73,7 @@ fn published(
 }
 
 /// The notification of what is wrong with a text.
-pub fn told_of(alloc: Global, unit: Unit, document: &Document) -> Result<Value, AllocError> {
+pub fn told_of(alloc: Global, unit: ColumnUnit, document: &Document) -> Result<Value, AllocError> {
     let list = diagnostics(alloc, document.page(unit))?;
     published(alloc, document.uri.as_str(), document.version, &list)
 }

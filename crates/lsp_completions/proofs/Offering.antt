@@ -11,7 +11,7 @@ use Rattle.offered_names.specs.Asked.{asked_behind}
 use Rattle.offered_names.specs.Standing.{stands, nowhere}
 use Rattle.offered_names.specs.Gaps.{gap_start, gap_end, mended}
 use Rattle.lsp_completions.specs.declared.readable.Readable.{Readable}
-use Rattle.lsp_completions.specs.declared.wishes.Place.{Place}
+use Rattle.lsp_completions.specs.declared.wishes.TypedPlace.{TypedPlace}
 use Rattle.lsp_completions.specs.Items.{AreWords, word_of, begins_so}
 use Rattle.lsp_completions.specs.Fronts.{typed_in, before_typed}
 use Rattle.lsp_completions.specs.Readables.{IsLengthBehind, IsOf, IsReadable, cut, without}
@@ -39,7 +39,7 @@ without_by text us ws at from to (Ok (Some r)) f m h =
     without to (subst (λ (n : ℕ). IsOf (mended text n to) n r) f (subst (λ (t : List ℕ). IsOf t from r) m h))
 
 -- what is offered behind tokens
-pub offered_by : {E : Type 0} (page : Page) (at : ℕ) (front : List ℕ) (ts us vs ws : List Word) (found : Option Readable) (place : Place) (r : Result Value E)
+pub offered_by : {E : Type 0} (page : Page) (at : ℕ) (front : List ℕ) (ts us vs ws : List Word) (found : Option Readable) (place : TypedPlace) (r : Result Value E)
     → front ≡ take at page.text.now → ArePlaced front ts → us ≡ ts → vs ≡ ts → ws ≡ before_typed at us → IfSome found (IsReadable page.text.now ws at)
     → place.typed.now ≡ typed_in at vs → place.asked ≡ asked_behind ws → place.standing ≡ stands nowhere ws
     → IfOk r (λ v. IsList found place ws (view v)) → IfOk r (λ v. IsCompletion page at (view v))

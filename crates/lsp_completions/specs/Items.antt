@@ -3,16 +3,16 @@ use Rattle.std.specs.Prelude.{◌≡◌, ℕ, nat_eq, Bool, List, ◌++◌, map,
 use Rattle.std.specs.List.{starts_with}
 use Rattle.serde_json.specs.Data.{Data, number, unsigned, string, object, member, no_members}
 use Rattle.declared_names.specs.declared.declared.Declaration.{Declaration}
-use Rattle.lsp_results.specs.declared.sorts.Sort.{Sort}
-use Rattle.lsp_results.specs.declared.sorts.Sort.TheVariants.{Variable, Field, Constant, Typedef, Proctype, Label, Inline, Parameter}
+use Rattle.lsp_results.specs.declared.sorts.DeclaredSort.{DeclaredSort}
+use Rattle.lsp_results.specs.declared.sorts.DeclaredSort.TheVariants.{Variable, Field, Constant, Typedef, Proctype, Label, Inline, Parameter}
 use Rattle.lsp_results.specs.Sorts.{sort_in, words_of}
 use Rattle.lsp_results.specs.Symbols.{text_shown}
-use Rattle.offered_names.specs.declared.asked.Asked.{Asked}
-use Rattle.offered_names.specs.declared.asked.Asked.TheVariants.{Message}
+use Rattle.offered_names.specs.declared.asked.Fitting.{Fitting}
+use Rattle.offered_names.specs.declared.asked.Fitting.TheVariants.{Message}
 use Rattle.offered_names.specs.Offers.{name_of}
 
 -- the number of what is most like it (LSP 3.17, `CompletionItemKind`)
-abbrev pub kind_of : Sort → ℕ
+abbrev pub kind_of : DeclaredSort → ℕ
 kind_of Variable = 6
 kind_of Parameter = 6
 kind_of Field = 5
@@ -23,12 +23,12 @@ kind_of Inline = 3
 kind_of Label = 18
 
 -- where a message stands, mtype names come first
-abbrev pub rank_of : Asked → Sort → List ℕ
+abbrev pub rank_of : Fitting → DeclaredSort → List ℕ
 rank_of Message Constant = codes "0"
 rank_of a s = codes "1"
 
 -- a declared name, with what it is
-abbrev pub item_of : List ℕ → List Declaration → Asked → Declaration → Data
+abbrev pub item_of : List ℕ → List Declaration → Fitting → Declaration → Data
 item_of text ds a d =
     object (member (codes "detail") (string (words_of (sort_in ds d)))
     (member (codes "kind") (number (unsigned (kind_of (sort_in ds d))))

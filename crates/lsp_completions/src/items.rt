@@ -6,33 +6,33 @@ ghost use Rattle.serde_json.specs.View.{view};
 ghost use Rattle.lsp_completions.specs.Items.{kind_of, rank_of, item_of, word_of, begins_so};
 
 use declared_names::declared::Declaration;
-use lsp_results::sorts::{Sort, sort_in};
+use lsp_results::sorts::{DeclaredSort, sort_in};
 use lsp_results::symbols::text_shown;
-use offered_names::{Asked, name_in};
+use offered_names::{Fitting, name_in};
 use serde_json::{Value, json};
 use std::alloc::{AllocError, Global};
 
 /// The number that editors give what is most like it (LSP 3.17, `CompletionItemKind`).
-fn kind_of(sort: Sort) -> usize
+fn kind_of(sort: DeclaredSort) -> usize
     ensures { result ≡ kind_of sort }
 {
     match sort {
-        Sort::Variable | Sort::Parameter => 6,
-        Sort::Field => 5,
-        Sort::Constant => 20,
-        Sort::Typedef => 22,
-        Sort::Proctype => 7,
-        Sort::Inline => 3,
-        Sort::Label => 18,
+        DeclaredSort::Variable | DeclaredSort::Parameter => 6,
+        DeclaredSort::Field => 5,
+        DeclaredSort::Constant => 20,
+        DeclaredSort::Typedef => 22,
+        DeclaredSort::Proctype => 7,
+        DeclaredSort::Inline => 3,
+        DeclaredSort::Label => 18,
     }
 }
 
 /// How names are sorted: where a message stands, mtype names come first.
-fn rank_of(asked: Asked, sort: Sort) -> &'static str
+fn rank_of(asked: Fitting, sort: DeclaredSort) -> &'static str
     ensures { result.now ≡ rank_of asked sort }
 {
     match (asked, sort) {
-        (Asked::Message, Sort::Constant) => "0",
+        (Fitting::Message, DeclaredSort::Constant) => "0",
         _ => "1",
     }
 }
@@ -42,7 +42,7 @@ fn item(
     alloc: Global,
     text: &[u8],
     all: &[Declaration],
-    asked: Asked,
+    asked: Fitting,
     declaration: &Declaration,
 ) -> Result<Value, AllocError>
     ensures { IfOk result (λ v. view v ≡ item_of text.now all.now asked declaration.now) }
@@ -61,7 +61,7 @@ pub fn items(
     alloc: Global,
     text: &[u8],
     all: &[Declaration],
-    asked: Asked,
+    asked: Fitting,
     some: &[Declaration],
 ) -> Result<Vec<Value>, AllocError>
     ensures { IfOk result (λ list. map view list.items ≡ map (item_of text.now all.now asked) some.now) }

@@ -4,7 +4,7 @@ ghost use Rattle.std.specs.Prelude.{◌≡◌, IfOk, IfSome};
 ghost use Rattle.lsp_completions.specs.Readables.{IsLengthBehind, IsOf, IsReadable};
 
 use explain_tokens::placed;
-use model_names::{Names, names_of};
+use model_names::{TextNames, names_of};
 use offered_names::{gap_end, gap_start, mended};
 use pml_lex::fault::LexError;
 use pml_token::token::Token;
@@ -15,7 +15,7 @@ use std::alloc::{AllocError, Global};
 #[derive(Drop)]
 pub struct Readable {
     pub text: Vec<u8>,
-    pub names: Names,
+    pub names: TextNames,
     pub offset: usize,
 }
 

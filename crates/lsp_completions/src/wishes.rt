@@ -13,7 +13,7 @@ use declared_names::declared::Declaration;
 use explain_tokens::placed;
 use lsp_results::page::Page;
 use offered_names::{
-    Asked, Standing, Wish, add_offered, asked_behind, form_behind, owner_at, stands,
+    Fitting, PlaceStanding, SoughtNames, add_offered, asked_behind, form_behind, owner_at, stands,
 };
 use pml_lex::fault::LexError;
 use pml_program::form::Form;
@@ -27,22 +27,22 @@ pub const MOST_NAMES: usize = 1000;
 
 /// A place of a text: what is typed of the word there, what may stand there, and in which unit it is.
 #[derive(Clone, Copy)]
-pub struct Place<'p> {
+pub struct TypedPlace<'p> {
     pub typed: &'p [u8],
-    pub asked: Asked,
-    pub standing: Standing,
+    pub asked: Fitting,
+    pub standing: PlaceStanding,
 }
 
 /// Names that are offered, as values of JSON.
 #[derive(Drop)]
-pub struct Offered {
+pub struct OfferedItems {
     pub items: Vec<Value>,
     /// Whether some are left out.
     pub is_cut: bool,
 }
 
 /// Whose names may stand there.
-fn own_owner(found: &Readable, standing: Standing) -> usize
+fn own_owner(found: &Readable, standing: PlaceStanding) -> usize
     ensures { result ≡ own_owner found.now standing }
 {
     let Some(head) = standing.head else {
@@ -69,7 +69,7 @@ fn fields_of(form: Option<Form>) -> Option<usize>
 fn field_owner(
     alloc: Global,
     found: &Readable,
-    place: Place<'_>,
+    place: TypedPlace<'_>,
     tokens: &[Token<'_>],
 ) -> Result<Option<usize>, AllocError>
     ensures { IfOk result (λ o. o ≡ field_owner found.now place.entry tokens.now) }
@@ -89,7 +89,7 @@ fn add_fields(
     out: &mut Vec<Declaration>,
     alloc: Global,
     found: &Readable,
-    place: Place<'_>,
+    place: TypedPlace<'_>,
     tokens: &[Token<'_>],
 ) -> Result<(), AllocError>
     ensures { OnOk result (out.new.items ≡ out.old.items ++ fields_at found.now place.entry tokens.now) }
@@ -97,7 +97,7 @@ fn add_fields(
     let Some(owner) = field_owner(alloc, found, place, tokens)? else {
         return Ok(());
     };
-    let wish = Wish {
+    let wish = SoughtNames {
         asked: place.asked,
         owner,
         offset: found.offset,
@@ -107,14 +107,18 @@ fn add_fields(
 }
 
 /// Adds the names of the unit that may stand there.
-fn add_own(out: &mut Vec<Declaration>, found: &Readable, place: Place<'_>) -> Result<(), AllocError>
+fn add_own(
+    out: &mut Vec<Declaration>,
+    found: &Readable,
+    place: TypedPlace<'_>,
+) -> Result<(), AllocError>
     ensures { OnOk result (out.new.items ≡ out.old.items ++ own_names found.now place.entry) }
 {
     let owner = own_owner(found, place.standing);
     if owner == 0 {
         return Ok(());
     }
-    let wish = Wish {
+    let wish = SoughtNames {
         asked: place.asked,
         owner,
         offset: found.offset,
@@ -136,11 +140,11 @@ fn add_own(out: &mut Vec<Declaration>, found: &Readable, place: Place<'_>) -> Re
 fn add_others(
     out: &mut Vec<Declaration>,
     found: &Readable,
-    place: Place<'_>,
+    place: TypedPlace<'_>,
 ) -> Result<(), AllocError>
     ensures { OnOk result (out.new.items ≡ out.old.items ++ other_names found.now place.entry) }
 {
-    let wish = Wish {
+    let wish = SoughtNames {
         asked: place.asked,
         owner: 0,
         offset: found.offset,
@@ -159,15 +163,15 @@ fn add_others(
 fn names_at(
     alloc: Global,
     found: &Readable,
-    place: Place<'_>,
+    place: TypedPlace<'_>,
     tokens: &[Token<'_>],
 ) -> Result<Vec<Declaration>, AllocError>
     ensures { IfOk result (λ ds. ds.items ≡ names_at found.now place.entry tokens.now) }
 {
     let mut out = Vec::new(alloc);
     match place.asked {
-        Asked::Field => add_fields(&mut out, alloc, found, place, tokens)?,
-        Asked::Any | Asked::Proctype | Asked::Label | Asked::Message => {
+        Fitting::Field => add_fields(&mut out, alloc, found, place, tokens)?,
+        Fitting::Any | Fitting::Proctype | Fitting::Label | Fitting::Message => {
             add_own(&mut out, found, place)?;
             add_others(&mut out, found, place)?;
         }
@@ -194,12 +198,12 @@ fn some_words(alloc: Global, typed: &[u8], some: &[&str]) -> Result<Vec<Value>, 
 }
 
 /// The words that may stand there.
-fn words_at(alloc: Global, place: Place<'_>) -> Result<Vec<Value>, AllocError>
+fn words_at(alloc: Global, place: TypedPlace<'_>) -> Result<Vec<Value>, AllocError>
     ensures { IfOk result (λ list. AreWords place.entry.typed.now (map view list.items)) }
 {
     match place.asked {
-        Asked::Any if place.standing.depth > 0 => some_words(alloc, place.typed, &IN_A_BODY),
-        Asked::Any => some_words(alloc, place.typed, &OUTSIDE),
+        Fitting::Any if place.standing.depth > 0 => some_words(alloc, place.typed, &IN_A_BODY),
+        Fitting::Any => some_words(alloc, place.typed, &OUTSIDE),
         _ => Ok(Vec::new(alloc)),
     }
 }
@@ -208,15 +212,15 @@ fn words_at(alloc: Global, place: Place<'_>) -> Result<Vec<Value>, AllocError>
 fn items_at(
     alloc: Global,
     found: &Readable,
-    place: Place<'_>,
+    place: TypedPlace<'_>,
     tokens: &[Token<'_>],
-) -> Result<Offered, AllocError>
+) -> Result<OfferedItems, AllocError>
     ensures { IfOk result (λ o. AreOffered found.now place.entry tokens.now o) }
 {
     let names = names_at(alloc, found, place, tokens)?;
     let all = found.names.declarations.as_slice();
     let some = front(&names, MOST_NAMES);
-    Ok(Offered {
+    Ok(OfferedItems {
         items: items(alloc, &found.text, all, place.asked, some)?,
         is_cut: MOST_NAMES < names.len(),
     })
@@ -226,14 +230,14 @@ fn items_at(
 fn told(
     alloc: Global,
     found: &Option<Readable>,
-    place: Place<'_>,
+    place: TypedPlace<'_>,
     tokens: &[Token<'_>],
 ) -> Result<Value, AllocError>
     ensures { IfOk result (λ v. IsList found.now place.entry tokens.now (view v)) }
 {
     let mut offered = match found {
         Some(found) => items_at(alloc, found, place, tokens)?,
-        None => Offered {
+        None => OfferedItems {
             items: Vec::new(alloc),
             is_cut: false,
         },
@@ -256,7 +260,7 @@ pub fn completion(alloc: Global, page: Page<'_>, offset: usize) -> Result<Value,
     };
     let before = before_typed(&tokens, offset);
     let found = readable_at(alloc, page.text, before, offset)?;
-    let place = Place {
+    let place = TypedPlace {
         typed: typed_in(&tokens, offset),
         asked: asked_behind(before),
         standing: stands(before),

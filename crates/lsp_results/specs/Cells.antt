@@ -2,13 +2,13 @@
 use Rattle.std.specs.Prelude.{ℕ, nat_lt, if◌then◌else◌, List, [], ◌∷◌, length, slice_set, slice_index_or, replicate, Option, Some, None}
 use Rattle.declared_names.specs.declared.declared.Declaration.{Declaration}
 use Rattle.declared_names.specs.declared.occurrence.Occurrence.{Occurrence}
-use Rattle.model_names.specs.declared.names.Names.{Names}
-use Rattle.lsp_results.specs.declared.sorts.Sort.{Sort}
-use Rattle.lsp_results.specs.declared.sorts.Sort.TheVariants.{Variable, Field, Constant, Typedef, Proctype, Label, Inline, Parameter}
+use Rattle.model_names.specs.declared.names.TextNames.{TextNames}
+use Rattle.lsp_results.specs.declared.sorts.DeclaredSort.{DeclaredSort}
+use Rattle.lsp_results.specs.declared.sorts.DeclaredSort.TheVariants.{Variable, Field, Constant, Typedef, Proctype, Label, Inline, Parameter}
 use Rattle.lsp_results.specs.Sorts.{sort_in}
 
 -- from 1, as the legend lists them
-abbrev pub number_of : Sort → ℕ
+abbrev pub number_of : DeclaredSort → ℕ
 number_of Variable = 1
 number_of Field = 2
 number_of Constant = 3
@@ -33,14 +33,14 @@ meant known cells [] = cells
 meant known cells (o ∷ os) = meant known (put cells o.at (slice_index_or known o.declared 0)) os
 
 -- what is declared in a text of so many bytes: inlines and their parameters last
-abbrev pub known_in : ℕ → Names → List ℕ
+abbrev pub known_in : ℕ → TextNames → List ℕ
 known_in n names = declared names.declarations.items (declared names.declarations.items (replicate n 0) names.declarations.items) names.inlines.declarations.items
 
 -- what the name is that begins at each byte: an inline's or its parameter first
-abbrev pub cells_of : ℕ → Names → List ℕ
+abbrev pub cells_of : ℕ → TextNames → List ℕ
 cells_of n names = meant (known_in n names) (meant (known_in n names) (replicate n 0) names.meant.items) names.inlines.meant.items
 
 -- nothing is known of a text without names
-abbrev pub cells_by : ℕ → Option Names → List ℕ
+abbrev pub cells_by : ℕ → Option TextNames → List ℕ
 cells_by n None = []
 cells_by n (Some names) = cells_of n names

@@ -4,7 +4,7 @@ use Rattle.pml_token.specs.declared.token.Kind.{Kind}
 use Rattle.pml_token.specs.declared.token.Kind.TheVariants as kind
 use Rattle.pml_token.specs.Word.{Word}
 use Rattle.text_parts.specs.declared.parts.Coloured.{Coloured}
-use Rattle.lsp_results.specs.declared.colours.Part.{Part}
+use Rattle.lsp_results.specs.declared.colours.AskedPart.{AskedPart}
 
 -- it begins as a word does
 abbrev pub is_word : List ℕ → Bool
@@ -25,14 +25,14 @@ abbrev pub sort_of : List ℕ → Word → ℕ
 sort_of cells w = sort_by cells w w.kind
 
 -- it begins in a part of the text
-abbrev pub is_within : Part → Word → Bool
+abbrev pub is_within : AskedPart → Word → Bool
 is_within p w = nat_le p.from w.line && nat_lt w.line p.to
 
 abbrev pub coloured_token : List ℕ → Word → Coloured
 coloured_token cells w = record { at = w.line; length = length w.text; sort = sort_of cells w - 1 }
 
 -- one entry for each token that has a colour, in the order of the text
-abbrev pub coloured_in : List ℕ → Part → List Word → List Coloured
+abbrev pub coloured_in : List ℕ → AskedPart → List Word → List Coloured
 coloured_in cells p [] = []
 coloured_in cells p (w ∷ ws) =
     if is_within p w && nat_lt 0 (sort_of cells w) then coloured_token cells w ∷ coloured_in cells p ws else coloured_in cells p ws

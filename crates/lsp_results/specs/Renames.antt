@@ -3,7 +3,7 @@ use Rattle.std.specs.Prelude.{◌≡◌, ℕ, List, map, codes, Some}
 use Rattle.serde_json.specs.Data.{Data, null, string, array, object, member, no_members}
 use Rattle.serde_json.specs.View.{items_of}
 use Rattle.declared_names.specs.declared.occurrence.Occurrence.{Occurrence}
-use Rattle.model_names.specs.declared.names.Names.{Names}
+use Rattle.model_names.specs.declared.names.TextNames.{TextNames}
 use Rattle.model_names.specs.Found.{name_at}
 use Rattle.model_verdicts.specs.declared.renaming.Renaming.{Renaming}
 use Rattle.model_verdicts.specs.Renamed.{IsRenaming}
@@ -11,7 +11,7 @@ use Rattle.lsp_results.specs.declared.page.Page.{Page}
 use Rattle.lsp_results.specs.Places.{range_of}
 
 -- the name at a place that can be renamed is told by where it stands
-pub data IsTarget (page : Page) (names : Names) (offset : ℕ) (d : Data) : Type 0 where
+pub data IsTarget (page : Page) (names : TextNames) (offset : ℕ) (d : Data) : Type 0 where
   is_none : d ≡ null → IsTarget page names offset d
   is_name : (o : Occurrence) → name_at names offset ≡ Some o → d ≡ range_of page o.length o.at → IsTarget page names offset d
 

@@ -6,12 +6,12 @@ use Rattle.promela_model.specs.declared.thing.Thing.TheVariants as thing
 use Rattle.declared_names.specs.declared.declared.Declaration.{Declaration}
 use Rattle.declared_names.specs.declared.declared.Stands.{Stands}
 use Rattle.declared_names.specs.declared.declared.Stands.TheVariants as stands
-use Rattle.model_names.specs.declared.names.Names.{Names}
-use Rattle.lsp_results.specs.declared.sorts.Sort.{Sort}
-use Rattle.lsp_results.specs.declared.sorts.Sort.TheVariants.{Variable, Field, Constant, Typedef, Proctype, Label, Inline, Parameter}
+use Rattle.model_names.specs.declared.names.TextNames.{TextNames}
+use Rattle.lsp_results.specs.declared.sorts.DeclaredSort.{DeclaredSort}
+use Rattle.lsp_results.specs.declared.sorts.DeclaredSort.TheVariants.{Variable, Field, Constant, Typedef, Proctype, Label, Inline, Parameter}
 
 -- the number of what is most like it (LSP 3.17, `SymbolKind`)
-abbrev pub number_of : Sort → ℕ
+abbrev pub number_of : DeclaredSort → ℕ
 number_of Variable = 13
 number_of Field = 8
 number_of Constant = 22
@@ -22,7 +22,7 @@ number_of Inline = 12
 number_of Parameter = 13
 
 -- what it is called
-abbrev pub words_of : Sort → List ℕ
+abbrev pub words_of : DeclaredSort → List ℕ
 words_of Variable = codes "variable"
 words_of Field = codes "field"
 words_of Constant = codes "mtype name"
@@ -33,7 +33,7 @@ words_of Inline = codes "inline"
 words_of Parameter = codes "parameter of an inline"
 
 -- what declared names stand for
-abbrev pub sort_of : Stands → Sort
+abbrev pub sort_of : Stands → DeclaredSort
 sort_of (stands.Thing (thing.Variable v)) = Variable
 sort_of (stands.Thing (thing.Constant n)) = Constant
 sort_of (stands.Thing (thing.Typedef o n)) = Typedef
@@ -51,22 +51,22 @@ abbrev pub holds : ℕ → Declaration → Bool
 holds o d = holds_by o d.stands
 
 -- a variable of a typedef is a field
-abbrev pub field_or : Bool → Sort → Sort
+abbrev pub field_or : Bool → DeclaredSort → DeclaredSort
 field_or true Variable = Field
 field_or b s = s
 
 -- what a declaration is among all of a text but those of inlines
-abbrev pub sort_in : List Declaration → Declaration → Sort
+abbrev pub sort_in : List Declaration → Declaration → DeclaredSort
 sort_in ds d = field_or (list_any (holds d.owner) ds) (sort_of d.stands)
 
 abbrev pub is_declared_at : ℕ → Declaration → Bool
 is_declared_at at d = nat_eq d.at at
 
 -- the declaration at a place: of an inline or its parameter first
-abbrev pub declared_at : Names → ℕ → Option Declaration
+abbrev pub declared_at : TextNames → ℕ → Option Declaration
 declared_at names at =
     option_or (find (is_declared_at at) names.inlines.declarations.items) (find (is_declared_at at) names.declarations.items)
 
 -- what the name is that is declared at a place
-abbrev pub sort_at : Names → ℕ → Option Sort
+abbrev pub sort_at : TextNames → ℕ → Option DeclaredSort
 sort_at names at = option_map (sort_in names.declarations.items) (declared_at names at)

@@ -4,7 +4,7 @@ use Rattle.std.specs.Str.{is_utf8}
 use Rattle.serde_json.specs.Data.{Data, number, unsigned, string, array, object, member, no_members}
 use Rattle.serde_json.specs.View.{items_of}
 use Rattle.declared_names.specs.declared.declared.Declaration.{Declaration}
-use Rattle.model_names.specs.declared.names.Names.{Names}
+use Rattle.model_names.specs.declared.names.TextNames.{TextNames}
 use Rattle.lsp_results.specs.declared.page.Page.{Page}
 use Rattle.lsp_results.specs.Places.{end_of, location_of}
 use Rattle.lsp_results.specs.Sorts.{number_of, sort_in}
@@ -24,6 +24,6 @@ symbol_of page ds d =
     (member (codes "location") (location_of page d.length d.at) (member (codes "name") (string (name_of page d)) no_members)))
 
 -- all declarations, those of inlines last
-abbrev pub symbols_of : Page → Names → Data
+abbrev pub symbols_of : Page → TextNames → Data
 symbols_of page names =
     array (items_of (map (symbol_of page names.declarations.items) (names.declarations.items ++ names.inlines.declarations.items)))

@@ -7,12 +7,12 @@ ghost use Rattle.lsp_results.specs.Actions.{written_at, title_of, edit_of, edits
 
 use crate::page::{Page, range};
 use crate::symbols::text_shown;
-use model_verdicts::{Exchange, Part, remedy_at, words_of};
+use model_verdicts::{ExchangedPart, SelectedPart, remedy_at, words_of};
 use serde_json::{Value, json};
 use std::alloc::{AllocError, Global};
 
 /// What is written in place of a part of a text.
-fn written_at<'t>(page: Page<'t>, exchange: Exchange) -> &'t str
+fn written_at<'t>(page: Page<'t>, exchange: ExchangedPart) -> &'t str
     ensures { result.now ≡ written_at page.entry exchange }
 {
     text_shown(words_of(page.text, exchange.words))
@@ -32,7 +32,7 @@ fn title(alloc: Global, words: &str) -> Result<String, AllocError>
 }
 
 /// The edit of an exchange.
-fn edit(alloc: Global, page: Page<'_>, exchange: Exchange) -> Result<Value, AllocError>
+fn edit(alloc: Global, page: Page<'_>, exchange: ExchangedPart) -> Result<Value, AllocError>
     ensures { IfOk result (λ v. view v ≡ edit_of page.entry exchange) }
 {
     let words = written_at(page, exchange);
@@ -41,7 +41,7 @@ fn edit(alloc: Global, page: Page<'_>, exchange: Exchange) -> Result<Value, Allo
 }
 
 /// The edits of an exchange, by the name of the text.
-fn edits(alloc: Global, page: Page<'_>, exchange: Exchange) -> Result<Value, AllocError>
+fn edits(alloc: Global, page: Page<'_>, exchange: ExchangedPart) -> Result<Value, AllocError>
     ensures { IfOk result (λ v. view v ≡ edits_of page.entry exchange) }
 {
     let uri = page.uri;
@@ -50,7 +50,7 @@ fn edits(alloc: Global, page: Page<'_>, exchange: Exchange) -> Result<Value, All
 }
 
 /// An exchange, as an edit that is offered.
-fn action(alloc: Global, page: Page<'_>, exchange: Exchange) -> Result<Value, AllocError>
+fn action(alloc: Global, page: Page<'_>, exchange: ExchangedPart) -> Result<Value, AllocError>
     ensures { IfOk result (λ v. view v ≡ action_of page.entry exchange) }
 {
     let title = title(alloc, written_at(page, exchange))?;
@@ -59,7 +59,7 @@ fn action(alloc: Global, page: Page<'_>, exchange: Exchange) -> Result<Value, Al
 }
 
 /// The list of one edit that is offered.
-fn only(alloc: Global, page: Page<'_>, exchange: Exchange) -> Result<Value, AllocError>
+fn only(alloc: Global, page: Page<'_>, exchange: ExchangedPart) -> Result<Value, AllocError>
     ensures { IfOk result (λ v. view v ≡ array (item (action_of page.entry exchange) no_items)) }
 {
     let action = action(alloc, page, exchange)?;
@@ -74,7 +74,7 @@ fn none(alloc: Global) -> Result<Value, AllocError>
 }
 
 /// What mends the first refusal that touches a part of a text, if something does.
-pub fn actions(alloc: Global, page: Page<'_>, part: Part) -> Result<Value, AllocError>
+pub fn actions(alloc: Global, page: Page<'_>, part: SelectedPart) -> Result<Value, AllocError>
     ensures { IfOk result (λ v. AreActions page.entry (view v)) }
 {
     match remedy_at(alloc, page.text, part)? {

@@ -5,7 +5,7 @@ ghost use Rattle.serde_json.specs.View.{view};
 ghost use Rattle.lsp_results.specs.Asked.{number_in, place_in, text_in};
 
 use serde_json::Value;
-use text_parts::Place;
+use text_parts::EditorPlace;
 
 /// The number of this name in an object, if it is none below 0 and no fraction.
 fn number_in(value: &Value, name: &str) -> Option<usize>
@@ -18,11 +18,11 @@ fn number_in(value: &Value, name: &str) -> Option<usize>
 }
 
 /// The place that an object names by its line and its character.
-pub fn place_in(value: &Value) -> Option<Place>
+pub fn place_in(value: &Value) -> Option<EditorPlace>
     ensures { result ≡ place_in (view value.now) }
 {
     match (number_in(value, "line"), number_in(value, "character")) {
-        (Some(line), Some(column)) => Some(Place { line, column }),
+        (Some(line), Some(column)) => Some(EditorPlace { line, column }),
         _ => None,
     }
 }

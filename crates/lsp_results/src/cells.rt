@@ -3,25 +3,25 @@
 ghost use Rattle.std.specs.Prelude.{◌≡◌, slice_index_or, replicate, IfOk};
 ghost use Rattle.lsp_results.specs.Cells.{number_of, put, declared, meant, cells_of, cells_by};
 
-use crate::sorts::{Sort, sort_in};
+use crate::sorts::{DeclaredSort, sort_in};
 use declared_names::declared::Declaration;
 use declared_names::occurrence::Occurrence;
-use model_names::Names;
+use model_names::TextNames;
 use std::alloc::{AllocError, Global};
 
 /// The number of what a name is, from 1: its place in the legend behind the names' first one.
-fn number_of(sort: Sort) -> usize
+fn number_of(sort: DeclaredSort) -> usize
     ensures { result ≡ number_of sort }
 {
     match sort {
-        Sort::Variable => 1,
-        Sort::Field => 2,
-        Sort::Constant => 3,
-        Sort::Typedef => 4,
-        Sort::Proctype => 5,
-        Sort::Inline => 6,
-        Sort::Parameter => 7,
-        Sort::Label => 8,
+        DeclaredSort::Variable => 1,
+        DeclaredSort::Field => 2,
+        DeclaredSort::Constant => 3,
+        DeclaredSort::Typedef => 4,
+        DeclaredSort::Proctype => 5,
+        DeclaredSort::Inline => 6,
+        DeclaredSort::Parameter => 7,
+        DeclaredSort::Label => 8,
     }
 }
 
@@ -73,7 +73,7 @@ fn empty(alloc: Global, length: usize) -> Result<Vec<usize>, AllocError>
 }
 
 /// What the name is that begins at each of so many bytes.
-fn cells_of(alloc: Global, length: usize, names: &Names) -> Result<Vec<usize>, AllocError>
+fn cells_of(alloc: Global, length: usize, names: &TextNames) -> Result<Vec<usize>, AllocError>
     ensures { IfOk result (λ v. v.items ≡ cells_of length names.now) }
 {
     let all = names.declarations.as_slice();
@@ -90,7 +90,7 @@ fn cells_of(alloc: Global, length: usize, names: &Names) -> Result<Vec<usize>, A
 pub fn cells_by(
     alloc: Global,
     length: usize,
-    names: &Option<Names>,
+    names: &Option<TextNames>,
 ) -> Result<Vec<usize>, AllocError>
     ensures { IfOk result (λ v. v.items ≡ cells_by length names.now) }
 {

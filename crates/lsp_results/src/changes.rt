@@ -10,7 +10,7 @@ use crate::asked::{place_in, text_in};
 use serde_json::Value;
 use source_lines::position::between;
 use std::alloc::{AllocError, Global};
-use text_parts::{Place, Unit, offset_of};
+use text_parts::{ColumnUnit, EditorPlace, offset_of};
 
 /// The text in which another stands between two places: where the second lies before the first, behind the first.
 fn replaced(
@@ -30,7 +30,7 @@ fn replaced(
 }
 
 /// The place of this name in an object.
-fn end_in(range: &Value, name: &str) -> Option<Place>
+fn end_in(range: &Value, name: &str) -> Option<EditorPlace>
     ensures { result ≡ end_in name.now (view range.now) }
 {
     match range.get(name) {
@@ -40,7 +40,12 @@ fn end_in(range: &Value, name: &str) -> Option<Place>
 }
 
 /// The text behind a change: a change without a range has the whole of it, and one whose range names no places changes nothing.
-fn changed(alloc: Global, unit: Unit, text: Vec<u8>, change: &Value) -> Result<Vec<u8>, AllocError>
+fn changed(
+    alloc: Global,
+    unit: ColumnUnit,
+    text: Vec<u8>,
+    change: &Value,
+) -> Result<Vec<u8>, AllocError>
     ensures { IfOk result (λ t. t.items ≡ changed unit text.items (view change.now)) }
 {
     let new = text_in(change, "text").as_bytes();
@@ -60,7 +65,7 @@ fn changed(alloc: Global, unit: Unit, text: Vec<u8>, change: &Value) -> Result<V
 /// The text behind changes, one after the other.
 pub fn all_changed(
     alloc: Global,
-    unit: Unit,
+    unit: ColumnUnit,
     text: Vec<u8>,
     changes: &[Value],
 ) -> Result<Vec<u8>, AllocError>

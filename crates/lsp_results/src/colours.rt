@@ -10,7 +10,7 @@ use text_parts::Coloured;
 
 /// A part of a text, from one byte up to another.
 #[derive(Clone, Copy, Debug, PartialEq, Eq)]
-pub struct Part {
+pub struct AskedPart {
     pub from: usize,
     pub to: usize,
 }
@@ -37,7 +37,7 @@ fn sort_of(cells: &[usize], token: &Token<'_>) -> usize
     }
 }
 
-fn is_within(part: Part, token: &Token<'_>) -> bool
+fn is_within(part: AskedPart, token: &Token<'_>) -> bool
     ensures { result ≡ is_within part token.now }
 {
     let at = token.line() as usize;
@@ -48,7 +48,7 @@ fn is_within(part: Part, token: &Token<'_>) -> bool
 pub fn coloured(
     alloc: Global,
     cells: &[usize],
-    part: Part,
+    part: AskedPart,
     tokens: &[Token<'_>],
 ) -> Result<Vec<Coloured>, AllocError>
     ensures { IfOk result (λ cs. cs.items ≡ coloured_in cells.now part tokens.now) }

@@ -14,29 +14,29 @@ use text_parts::{Fold, folds_of, place_of};
 
 /// The lines of a part, from 0: that of what opens it, and that of what closes it.
 #[derive(Clone, Copy, Debug, PartialEq, Eq)]
-pub struct Lines {
+pub struct FoldedLines {
     pub start: usize,
     pub end: usize,
 }
 
-fn lines_of(page: Page<'_>, fold: Fold) -> Lines
+fn lines_of(page: Page<'_>, fold: Fold) -> FoldedLines
     ensures { result ≡ lines_of page.entry fold }
 {
-    Lines {
+    FoldedLines {
         start: place_of(page.text, fold.from, page.unit).line,
         end: place_of(page.text, fold.to, page.unit).line,
     }
 }
 
 /// Whether a line stands between them.
-fn is_long(lines: Lines) -> bool
+fn is_long(lines: FoldedLines) -> bool
     ensures { result ≡ is_long lines }
 {
     lines.start < lines.end && 1 < lines.end - lines.start
 }
 
 /// A part that is folded up to the line before what closes it.
-fn told(alloc: Global, lines: Lines) -> Result<Value, AllocError>
+fn told(alloc: Global, lines: FoldedLines) -> Result<Value, AllocError>
     ensures { IfOk result (λ v. view v ≡ told_of lines) }
 {
     let start = lines.start;

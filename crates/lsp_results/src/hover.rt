@@ -9,12 +9,12 @@ use crate::page::{Page, range};
 use crate::sorts::sort_at;
 use crate::symbols::text_shown;
 use itoa::Buffer;
-use model_names::{Names, Occurrence};
+use model_names::{Occurrence, TextNames};
 use serde_json::{Value, json};
 use source_lines::position::line_of;
 use std::alloc::{AllocError, Global};
 
-fn sort_words(names: &Names, at: usize) -> &'static str
+fn sort_words(names: &TextNames, at: usize) -> &'static str
     ensures { result.now ≡ sort_words names.now at }
 {
     match sort_at(names, at) {
@@ -27,7 +27,7 @@ fn sort_words(names: &Names, at: usize) -> &'static str
 fn words(
     alloc: Global,
     page: Page<'_>,
-    names: &Names,
+    names: &TextNames,
     found: Occurrence,
 ) -> Result<String, AllocError>
     ensures { IfOk result (λ s. string_bytes s ≡ words_of page.entry names.now found) }
@@ -46,7 +46,7 @@ fn words(
 fn shown(
     alloc: Global,
     page: Page<'_>,
-    names: &Names,
+    names: &TextNames,
     found: Occurrence,
 ) -> Result<Value, AllocError>
     ensures { IfOk result (λ v. view v ≡ hover_of page.entry names.now (Some found)) }
@@ -60,7 +60,7 @@ fn shown(
 pub fn hover(
     alloc: Global,
     page: Page<'_>,
-    names: &Names,
+    names: &TextNames,
     offset: usize,
 ) -> Result<Value, AllocError>
     ensures { IfOk result (λ v. view v ≡ hover_of page.entry names.now (name_at names.now offset)) }

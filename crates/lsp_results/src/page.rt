@@ -7,17 +7,17 @@ ghost use Rattle.lsp_results.specs.Places.{place_at, end_of, point_of, range_of,
 
 use serde_json::{Value, json};
 use std::alloc::{AllocError, Global};
-use text_parts::{Place, Unit, place_of};
+use text_parts::{ColumnUnit, EditorPlace, place_of};
 
 /// A text with the name that its editor gives it, and what a column of it counts.
 #[derive(Clone, Copy)]
 pub struct Page<'t> {
     pub uri: &'t str,
     pub text: &'t [u8],
-    pub unit: Unit,
+    pub unit: ColumnUnit,
 }
 
-fn place_at(page: Page<'_>, at: usize) -> Place
+fn place_at(page: Page<'_>, at: usize) -> EditorPlace
     ensures { result ≡ place_at page.entry at }
 {
     place_of(page.text, at, page.unit)
@@ -30,7 +30,7 @@ pub fn end_of(page: Page<'_>, at: usize, length: usize) -> usize
     at.saturating_add(length).min(page.text.len())
 }
 
-fn point(alloc: Global, place: Place) -> Result<Value, AllocError>
+fn point(alloc: Global, place: EditorPlace) -> Result<Value, AllocError>
     ensures { IfOk result (λ v. view v ≡ point_of place) }
 {
     let line = place.line;

@@ -6,7 +6,7 @@ ghost use Rattle.model_names.specs.Found.{name_at};
 ghost use Rattle.lsp_results.specs.Told.{is_asked, IsDefinition, AreReferences, AreHighlights};
 
 use crate::page::{Page, locations, marks};
-use model_names::Names;
+use model_names::TextNames;
 use serde_json::Value;
 use std::alloc::{AllocError, Global};
 
@@ -14,7 +14,7 @@ use std::alloc::{AllocError, Global};
 pub fn definition(
     alloc: Global,
     page: Page<'_>,
-    names: &Names,
+    names: &TextNames,
     offset: usize,
 ) -> Result<Value, AllocError>
     ensures { IfOk result (λ v. IsDefinition page.entry names.now (name_at names.now offset) (view v)) }
@@ -57,7 +57,7 @@ fn asked_for(
 pub fn references(
     alloc: Global,
     page: Page<'_>,
-    names: &Names,
+    names: &TextNames,
     offset: usize,
     with_declaration: bool,
 ) -> Result<Value, AllocError>
@@ -77,7 +77,7 @@ pub fn references(
 pub fn highlights(
     alloc: Global,
     page: Page<'_>,
-    names: &Names,
+    names: &TextNames,
     offset: usize,
 ) -> Result<Value, AllocError>
     ensures { IfOk result (λ v. AreHighlights page.entry names.now (name_at names.now offset) (view v)) }

@@ -7,7 +7,7 @@ ghost use Rattle.model_names.specs.Told.{AreMeant};
 ghost use Rattle.lsp_results.specs.Renames.{edit_of, edits_of, IsTarget, IsRename};
 
 use crate::page::{Page, range};
-use model_names::Names;
+use model_names::TextNames;
 use model_verdicts::renaming::{NoRenaming, Renaming, renamed, target_at};
 use serde_json::{Value, json};
 use std::alloc::{AllocError, Global};
@@ -16,7 +16,7 @@ use std::alloc::{AllocError, Global};
 pub fn target(
     alloc: Global,
     page: Page<'_>,
-    names: &Names,
+    names: &TextNames,
     offset: usize,
 ) -> Result<Value, AllocError>
     ensures { IfOk result (λ v. IsTarget page.entry names.now offset (view v)) }
@@ -69,7 +69,7 @@ fn told(alloc: Global, page: Page<'_>, name: &str, renaming: &Renaming) -> Resul
 pub fn rename(
     alloc: Global,
     page: Page<'_>,
-    names: &Names,
+    names: &TextNames,
     offset: usize,
     name: &str,
 ) -> Result<Result<Value, NoRenaming>, AllocError>

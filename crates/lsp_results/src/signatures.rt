@@ -13,17 +13,19 @@ use pml_token::token::Token;
 use serde_json::{Value, json};
 use source_lines::position::between;
 use std::alloc::{AllocError, Global};
-use text_parts::{Call, Part, Unit, call_around, definition, heading, parameters, units};
+use text_parts::{
+    ColumnUnit, PartialCall, TextPart, call_around, definition, heading, parameters, units,
+};
 
 /// The name that is called.
-fn name_in<'t>(page: Page<'t>, call: Call) -> &'t [u8]
+fn name_in<'t>(page: Page<'t>, call: PartialCall) -> &'t [u8]
     ensures { result.now ≡ name_in page.entry call }
 {
     between(page.text, call.at, end_of(page, call.at, call.length))
 }
 
 /// A part of a text.
-fn text_in<'t>(page: Page<'t>, part: Part) -> &'t str
+fn text_in<'t>(page: Page<'t>, part: TextPart) -> &'t str
     ensures { result.now ≡ text_in page.entry part }
 {
     text_shown(between(page.text, part.from, part.to))
@@ -33,11 +35,16 @@ fn text_in<'t>(page: Page<'t>, part: Part) -> &'t str
 fn units_to(page: Page<'_>, from: usize, to: usize) -> usize
     ensures { result ≡ units_to page.entry from to }
 {
-    units(Unit::Utf16, between(page.text, from, to))
+    units(ColumnUnit::Utf16, between(page.text, from, to))
 }
 
 /// A parameter, by where it stands in a heading.
-fn parameter(alloc: Global, page: Page<'_>, heading: Part, part: Part) -> Result<Value, AllocError>
+fn parameter(
+    alloc: Global,
+    page: Page<'_>,
+    heading: TextPart,
+    part: TextPart,
+) -> Result<Value, AllocError>
     ensures { IfOk result (λ v. view v ≡ parameter_of page.entry heading part) }
 {
     let start = units_to(page, heading.from, part.from);
@@ -49,8 +56,8 @@ fn parameter(alloc: Global, page: Page<'_>, heading: Part, part: Part) -> Result
 fn listed(
     alloc: Global,
     page: Page<'_>,
-    heading: Part,
-    parts: &[Part],
+    heading: TextPart,
+    parts: &[TextPart],
 ) -> Result<Vec<Value>, AllocError>
     ensures { IfOk result (λ list. map view list.items ≡ map (parameter_of page.entry heading) parts.now) }
 {
@@ -65,8 +72,8 @@ fn listed(
 fn described(
     alloc: Global,
     page: Page<'_>,
-    heading: Part,
-    parts: &[Part],
+    heading: TextPart,
+    parts: &[TextPart],
 ) -> Result<Value, AllocError>
     ensures { IfOk result (λ v. view v ≡ signature_of page.entry parts.now heading) }
 {
@@ -79,8 +86,8 @@ fn described(
 fn help(
     alloc: Global,
     page: Page<'_>,
-    heading: Part,
-    parts: &[Part],
+    heading: TextPart,
+    parts: &[TextPart],
     number: usize,
 ) -> Result<Value, AllocError>
     ensures { IfOk result (λ v. view v ≡ help_of page.entry number parts.now heading) }
@@ -108,7 +115,7 @@ fn help_by(
 }
 
 /// What is told of a call.
-fn of_call(alloc: Global, page: Page<'_>, call: Call) -> Result<Value, AllocError>
+fn of_call(alloc: Global, page: Page<'_>, call: PartialCall) -> Result<Value, AllocError>
     ensures { IfOk result (λ v. IsOfCall page.entry call (view v)) }
 {
     let tokens = match placed(alloc, page.text) {

@@ -4,12 +4,12 @@ ghost use Rattle.std.specs.Prelude.{◌≡◌, find};
 ghost use Rattle.std.specs.List.{list_any};
 ghost use Rattle.lsp_results.specs.Sorts.{holds, sort_of, sort_in, number_of, words_of, is_declared_at, declared_at, sort_at};
 
-use model_names::{Declaration, Names, Stands};
+use model_names::{Declaration, Stands, TextNames};
 use promela_model::thing::Thing;
 
 /// What a declared name is.
 #[derive(Clone, Copy, Debug, PartialEq, Eq)]
-pub enum Sort {
+pub enum DeclaredSort {
     Variable,
     Field,
     Constant,
@@ -20,20 +20,20 @@ pub enum Sort {
     Parameter,
 }
 
-impl Sort {
+impl DeclaredSort {
     /// The number that editors give what is most like it (LSP 3.17, `SymbolKind`).
     pub fn number(self) -> usize
         ensures { result ≡ number_of self }
     {
         match self {
-            Sort::Variable => 13,
-            Sort::Field => 8,
-            Sort::Constant => 22,
-            Sort::Typedef => 23,
-            Sort::Proctype => 5,
-            Sort::Label => 20,
-            Sort::Inline => 12,
-            Sort::Parameter => 13,
+            DeclaredSort::Variable => 13,
+            DeclaredSort::Field => 8,
+            DeclaredSort::Constant => 22,
+            DeclaredSort::Typedef => 23,
+            DeclaredSort::Proctype => 5,
+            DeclaredSort::Label => 20,
+            DeclaredSort::Inline => 12,
+            DeclaredSort::Parameter => 13,
         }
     }
 
@@ -42,14 +42,14 @@ impl Sort {
         ensures { result.now ≡ words_of self }
     {
         match self {
-            Sort::Variable => "variable",
-            Sort::Field => "field",
-            Sort::Constant => "mtype name",
-            Sort::Typedef => "typedef",
-            Sort::Proctype => "proctype",
-            Sort::Label => "label",
-            Sort::Inline => "inline",
-            Sort::Parameter => "parameter of an inline",
+            DeclaredSort::Variable => "variable",
+            DeclaredSort::Field => "field",
+            DeclaredSort::Constant => "mtype name",
+            DeclaredSort::Typedef => "typedef",
+            DeclaredSort::Proctype => "proctype",
+            DeclaredSort::Label => "label",
+            DeclaredSort::Inline => "inline",
+            DeclaredSort::Parameter => "parameter of an inline",
         }
     }
 }
@@ -70,26 +70,26 @@ fn is_field(declarations: &[Declaration], owner: usize) -> bool
     declarations.iter().any(|d| holds(d, owner))
 }
 
-fn sort_of(stands: Stands) -> Sort
+fn sort_of(stands: Stands) -> DeclaredSort
     ensures { result ≡ sort_of stands }
 {
     match stands {
-        Stands::Thing(Thing::Variable(_)) => Sort::Variable,
-        Stands::Thing(Thing::Constant(_)) => Sort::Constant,
-        Stands::Thing(Thing::Typedef(_, _)) => Sort::Typedef,
-        Stands::Thing(Thing::Proctype(_, _)) => Sort::Proctype,
-        Stands::Label => Sort::Label,
-        Stands::Inline => Sort::Inline,
-        Stands::Parameter => Sort::Parameter,
+        Stands::Thing(Thing::Variable(_)) => DeclaredSort::Variable,
+        Stands::Thing(Thing::Constant(_)) => DeclaredSort::Constant,
+        Stands::Thing(Thing::Typedef(_, _)) => DeclaredSort::Typedef,
+        Stands::Thing(Thing::Proctype(_, _)) => DeclaredSort::Proctype,
+        Stands::Label => DeclaredSort::Label,
+        Stands::Inline => DeclaredSort::Inline,
+        Stands::Parameter => DeclaredSort::Parameter,
     }
 }
 
 /// What a declaration is among all of a text but those of inlines.
-pub fn sort_in(declarations: &[Declaration], declaration: &Declaration) -> Sort
+pub fn sort_in(declarations: &[Declaration], declaration: &Declaration) -> DeclaredSort
     ensures { result ≡ sort_in declarations.now declaration.now }
 {
     match sort_of(declaration.stands) {
-        Sort::Variable if is_field(declarations, declaration.owner) => Sort::Field,
+        DeclaredSort::Variable if is_field(declarations, declaration.owner) => DeclaredSort::Field,
         sort => sort,
     }
 }
@@ -113,7 +113,7 @@ fn declared_at(declarations: &[Declaration], at: usize) -> Option<Declaration>
 }
 
 /// What the name is that is declared at a place: an inline or its parameter first.
-pub fn sort_at(names: &Names, at: usize) -> Option<Sort>
+pub fn sort_at(names: &TextNames, at: usize) -> Option<DeclaredSort>
     ensures { result ≡ sort_at names.now at }
 {
     let declarations = names.declarations.as_slice();

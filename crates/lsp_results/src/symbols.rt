@@ -6,7 +6,7 @@ ghost use Rattle.lsp_results.specs.Symbols.{text_shown, name_of, symbol_of, symb
 
 use crate::page::{Page, end_of, location};
 use crate::sorts::sort_in;
-use model_names::{Declaration, Names};
+use model_names::{Declaration, TextNames};
 use serde_json::{Value, json};
 use source_lines::position::between;
 use std::alloc::{AllocError, Global};
@@ -59,7 +59,7 @@ fn add_symbols(
 }
 
 /// What a text declares, as editors list it.
-pub fn symbols(alloc: Global, page: Page<'_>, names: &Names) -> Result<Value, AllocError>
+pub fn symbols(alloc: Global, page: Page<'_>, names: &TextNames) -> Result<Value, AllocError>
     ensures { IfOk result (λ v. view v ≡ symbols_of page.entry names.now) }
 {
     let mut list = Vec::new(alloc);

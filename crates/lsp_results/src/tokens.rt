@@ -5,10 +5,10 @@ ghost use Rattle.serde_json.specs.View.{view};
 ghost use Rattle.lsp_results.specs.Tokens.{numbers_of, told_of, AreColours};
 
 use crate::cells::cells_by;
-use crate::colours::{Part, coloured};
+use crate::colours::{AskedPart, coloured};
 use crate::page::Page;
 use explain_tokens::placed;
-use model_names::{Names, names_of};
+use model_names::{TextNames, names_of};
 use pml_lex::fault::LexError;
 use pml_token::token::Token;
 use serde_json::{Number, Value, json};
@@ -38,8 +38,8 @@ fn listed(alloc: Global, numbers: &[usize]) -> Result<Value, AllocError>
 fn told(
     alloc: Global,
     page: Page<'_>,
-    names: &Option<Names>,
-    part: Part,
+    names: &Option<TextNames>,
+    part: AskedPart,
     tokens: &[Token<'_>],
 ) -> Result<Value, AllocError>
     ensures { IfOk result (λ v. view v ≡ told_of page.entry names.now part tokens.now) }
@@ -52,7 +52,11 @@ fn told(
 }
 
 /// What the tokens are that begin in a part of a text, which an editor colours; nothing of a text that cannot be cut into tokens.
-pub fn tokens_of(alloc: Global, page: Page<'_>, part: Part) -> Result<Option<Value>, AllocError>
+pub fn tokens_of(
+    alloc: Global,
+    page: Page<'_>,
+    part: AskedPart,
+) -> Result<Option<Value>, AllocError>
     ensures { IfOk result (λ o. IfSome o (λ v. AreColours page.entry part (view v))) }
 {
     let tokens = match placed(alloc, page.text) {

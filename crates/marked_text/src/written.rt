@@ -4,7 +4,7 @@ ghost use Rattle.std.specs.Prelude.{◌≡◌, ◌≤◌, max, OnOk, IfOk};
 ghost use Rattle.marked_text.specs.Writes.{spot, names, at, Goes, Went, StandsAt, WritesAll};
 
 use crate::pen::{OWN, Pen, add_mark};
-use pml_macros::atom::{Atom, Place};
+use pml_macros::atom::{Atom, FilePlace};
 use pml_macros::book::Book;
 use std::alloc::{AllocError, Global};
 
@@ -71,7 +71,7 @@ fn go_to(
 }
 
 /// Whether a place is in a file so many bytes behind another.
-fn is_behind(place: Place, other: Place, bytes: usize) -> bool {
+fn is_behind(place: FilePlace, other: FilePlace, bytes: usize) -> bool {
     place.file == other.file
         && place.offset as usize == (other.offset as usize).saturating_add(bytes)
 }
@@ -94,7 +94,7 @@ fn adjoins(book: &Book, last: Option<Atom>, atom: &Atom) -> bool {
 }
 
 /// How many blanks stand before a token that is the first of its line: those that its line has there, and one at least before a `#`.
-fn indent(text: &[u8], place: Place) -> u32 {
+fn indent(text: &[u8], place: FilePlace) -> u32 {
     let blanks = place.column.saturating_sub(1).min(MOST_BLANKS);
     match text {
         [b'#', ..] => blanks.max(1),

@@ -7,14 +7,14 @@ use Rattle.declared_names.specs.declared.occurrence.Occurrence.{Occurrence}
 use Rattle.declared_names.specs.declared.declared.Declaration.{Declaration}
 use Rattle.declared_names.specs.declared.declared.Stands.{Stands}
 use Rattle.declared_names.specs.declared.declared.Stands.TheVariants.{Label}
-use Rattle.model_names.specs.declared.names.Names.{Names}
+use Rattle.model_names.specs.declared.names.TextNames.{TextNames}
 
 -- the name touches the place
 abbrev pub touches : ℕ → Occurrence → Bool
 touches offset o = nat_le o.at offset && nat_le offset (o.at + o.length)
 
 -- the name that touches a place: the first one, those of inlines and their parameters before others
-abbrev pub name_at : Names → ℕ → Option Occurrence
+abbrev pub name_at : TextNames → ℕ → Option Occurrence
 name_at names offset = option_or (find (touches offset) names.inlines.meant.items) (find (touches offset) names.meant.items)
 
 -- where those stand that mean a declaration

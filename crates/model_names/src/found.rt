@@ -4,7 +4,7 @@ ghost use Rattle.std.specs.Prelude.{◌≡◌, ◌++◌, IfOk, OnOk, find};
 ghost use Rattle.std.specs.List.{list_any};
 ghost use Rattle.model_names.specs.Found.{touches, name_at, places_in, declared_in, IsOrdered, is_label, is_label_there};
 
-use crate::names::Names;
+use crate::names::TextNames;
 use declared_names::declared::{Declaration, Stands};
 use declared_names::occurrence::Occurrence;
 use std::alloc::{AllocError, Global};
@@ -87,7 +87,7 @@ fn has_label(declarations: &[Declaration], at: usize) -> bool
         .any(|d| d.at == at && is_label(d.stands))
 }
 
-impl Names {
+impl TextNames {
     /// The name that touches a place, if there is one: of an inline's name or parameter first.
     pub fn at(&self, offset: usize) -> Option<Occurrence>
         ensures { result ≡ name_at self.now offset }

@@ -3,7 +3,7 @@
 ghost use Rattle.std.specs.Prelude.{◌≡◌, IfSome};
 ghost use Rattle.model_names.specs.Told.{AreMeant};
 
-use crate::names::{Names, names_of};
+use crate::names::{TextNames, names_of};
 use std::alloc::{AllocError, Global};
 use std::marker::Model;
 
@@ -12,7 +12,7 @@ use std::marker::Model;
 pub struct KeptNames {
     text: Vec<u8>,
     /// What was read: of a text whose tokens spell no tree it is nothing.
-    read: Option<Option<Names>>,
+    read: Option<Option<TextNames>>,
 }
 
 impl Model for KeptNames {
@@ -60,7 +60,7 @@ impl KeptNames {
     }
 
     /// The names, if they were read, and the text has some.
-    pub fn names(&self) -> Option<&Names>
+    pub fn names(&self) -> Option<&TextNames>
         ensures { IfSome result (λ names. AreMeant self.now names.now.meant.items) }
     {
         match &self.read {

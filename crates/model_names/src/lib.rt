@@ -12,4 +12,4 @@ pub use declared_names::declared::{Declaration, Stands};
 pub use declared_names::occurrence::Occurrence;
 pub use inlines::Inlines;
 pub use kept::KeptNames;
-pub use names::{Names, names_of};
+pub use names::{TextNames, names_of};

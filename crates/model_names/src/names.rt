@@ -18,7 +18,7 @@ use std::alloc::{AllocError, Global};
 
 /// The names of a text.
 #[derive(Drop)]
-pub struct Names {
+pub struct TextNames {
     /// Each name that means a declaration, as the checks go through them: a token of an inline's body once for each call.
     pub meant: Vec<Occurrence>,
     /// What is declared, but for inlines.
@@ -46,7 +46,7 @@ fn marked<'a>(alloc: Global, tokens: &'a [Token<'a>]) -> Result<Option<Outcome>,
     }
 }
 
-fn of_tokens<'a>(alloc: Global, tokens: &'a [Token<'a>]) -> Result<Option<Names>, AllocError>
+fn of_tokens<'a>(alloc: Global, tokens: &'a [Token<'a>]) -> Result<Option<TextNames>, AllocError>
     ensures { IfOk result (λ o. IfSome o (λ names. AreMeantIn tokens.now names.meant.items)) }
 {
     let expanded = match expand(alloc, tokens) {
@@ -60,7 +60,7 @@ fn of_tokens<'a>(alloc: Global, tokens: &'a [Token<'a>]) -> Result<Option<Names>
                 meant,
                 declarations,
             },
-        ) => Ok(Some(Names {
+        ) => Ok(Some(TextNames {
             meant,
             declarations,
             inlines: inlines_of(alloc, tokens)?,
@@ -70,7 +70,7 @@ fn of_tokens<'a>(alloc: Global, tokens: &'a [Token<'a>]) -> Result<Option<Names>
 }
 
 /// The names of a text, if its tokens spell a tree.
-pub fn names_of(alloc: Global, text: &[u8]) -> Result<Option<Names>, AllocError>
+pub fn names_of(alloc: Global, text: &[u8]) -> Result<Option<TextNames>, AllocError>
     ensures { IfOk result (λ o. IfSome o (λ names. AreMeant text.now names.meant.items)) }
 {
     match placed(alloc, text) {

@@ -1,13 +1,13 @@
 -- Parts of a text that are exchanged for others.
 use Rattle.std.specs.Prelude.{ℕ, List, [], ◌++◌, take, drop, codes}
-use Rattle.model_verdicts.specs.declared.exchange.Sign.{Sign}
-use Rattle.model_verdicts.specs.declared.exchange.Sign.TheVariants as sign
+use Rattle.model_verdicts.specs.declared.exchange.WrittenSign.{WrittenSign}
+use Rattle.model_verdicts.specs.declared.exchange.WrittenSign.TheVariants as sign
 use Rattle.model_verdicts.specs.declared.exchange.Words.{Words}
 use Rattle.model_verdicts.specs.declared.exchange.Words.TheVariants as words
-use Rattle.model_verdicts.specs.declared.exchange.Exchange.{Exchange}
+use Rattle.model_verdicts.specs.declared.exchange.ExchangedPart.{ExchangedPart}
 
 -- how a sign is written
-abbrev pub bytes_of : Sign → List ℕ
+abbrev pub bytes_of : WrittenSign → List ℕ
 bytes_of sign.Nothing = []
 bytes_of sign.Semicolon = codes ";"
 bytes_of sign.SemicolonBefore = codes "; "
@@ -29,5 +29,5 @@ words_of text (words.Sign s) = bytes_of s
 words_of text (words.Copy at n) = take n (drop at text)
 
 -- the text with a part of it exchanged
-abbrev pub exchanged : List ℕ → Exchange → List ℕ
+abbrev pub exchanged : List ℕ → ExchangedPart → List ℕ
 exchanged text e = take e.at text ++ (words_of text e.words ++ drop e.length (drop e.at text))

@@ -5,8 +5,8 @@ use Rattle.std.specs.List.{starts_with}
 use Rattle.pml_token.specs.declared.token.Kind.TheVariants as kind
 use Rattle.pml_token.specs.Word.{same_kind, Word}
 use Rattle.explain_tokens.specs.Placed.{ArePlaced}
-use Rattle.model_verdicts.specs.declared.parts.Front.{Front}
-use Rattle.model_verdicts.specs.declared.parts.Front.TheVariants.{End, Progress, Accept, Plain}
+use Rattle.model_verdicts.specs.declared.parts.LabelPrefix.{LabelPrefix}
+use Rattle.model_verdicts.specs.declared.parts.LabelPrefix.TheVariants.{End, Progress, Accept, Plain}
 
 -- one token is all of a text, and a name
 abbrev pub is_one_name : List ℕ → List Word → Bool
@@ -23,7 +23,7 @@ abbrev pub begins : List ℕ → List ℕ → Bool
 begins name front = starts_with nat_eq name front
 
 -- how a label begins
-abbrev pub front_of : List ℕ → Front
+abbrev pub front_of : List ℕ → LabelPrefix
 front_of name =
     if begins name (codes "end") then End
     else (if begins name (codes "progress") then Progress else (if begins name (codes "accept") then Accept else Plain))

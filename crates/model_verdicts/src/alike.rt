@@ -8,7 +8,7 @@ use model_names::Occurrence;
 
 /// Names that are exchanged: where they stand, in the order of the text, and how many bytes they have before and then.
 #[derive(Clone, Copy)]
-pub struct Exchange<'s> {
+pub struct ExchangedNames<'s> {
     pub places: &'s [usize],
     pub before: usize,
     pub then: usize,
@@ -22,7 +22,7 @@ fn count_before(places: &[usize], at: usize) -> usize
 }
 
 /// Whether what stood at one place stands at the other then.
-fn is_moved(exchange: Exchange<'_>, from: usize, to: usize) -> bool
+fn is_moved(exchange: ExchangedNames<'_>, from: usize, to: usize) -> bool
     ensures { OnTrue result (IsMoved exchange.entry.places.now exchange.entry.before exchange.entry.then from to) }
 {
     let count = count_before(exchange.places, from);
@@ -38,14 +38,14 @@ fn is_moved(exchange: Exchange<'_>, from: usize, to: usize) -> bool
     }
 }
 
-fn is_moved_name(exchange: Exchange<'_>, one: &Occurrence, other: &Occurrence) -> bool
+fn is_moved_name(exchange: ExchangedNames<'_>, one: &Occurrence, other: &Occurrence) -> bool
     ensures { OnTrue result (IsMovedName exchange.entry.places.now exchange.entry.before exchange.entry.then one.now other.now) }
 {
     is_moved(exchange, one.at, other.at) && is_moved(exchange, one.declared, other.declared)
 }
 
 /// Whether each name means then what it meant before.
-pub fn are_moved(exchange: Exchange<'_>, before: &[Occurrence], then: &[Occurrence]) -> bool
+pub fn are_moved(exchange: ExchangedNames<'_>, before: &[Occurrence], then: &[Occurrence]) -> bool
     ensures { OnTrue result (AreMoved exchange.entry.places.now exchange.entry.before exchange.entry.then before.now then.now) }
 {
     if before.len() != then.len() {

@@ -8,7 +8,7 @@ use diagnostics::Refusal;
 
 /// How a text is refused: the order of its refusal, where that lies, and how many bytes stand behind that.
 #[derive(Clone, Copy, Debug, PartialEq, Eq)]
-pub struct Seen {
+pub struct RankedRefusal {
     pub rank: usize,
     pub at: usize,
     pub left: usize,
@@ -42,14 +42,14 @@ fn rank_of(refusal: Refusal) -> usize
 }
 
 /// How a text of so many bytes is refused.
-pub fn seen_by(verdict: &Verdict, length: usize) -> Seen
+pub fn seen_by(verdict: &Verdict, length: usize) -> RankedRefusal
     ensures { result ≡ seen_by verdict.now length }
 {
     let at = match verdict.place {
         Some(place) => place.offset,
         None => 0,
     };
-    Seen {
+    RankedRefusal {
         rank: rank_of(verdict.refusal),
         at,
         left: length.saturating_sub(at),
@@ -57,7 +57,7 @@ pub fn seen_by(verdict: &Verdict, length: usize) -> Seen
 }
 
 /// Whether a refusal lies where so many bytes were written.
-fn is_touched(then: Seen, at: usize, length: usize) -> bool
+fn is_touched(then: RankedRefusal, at: usize, length: usize) -> bool
     ensures { result ≡ is_touched then at length }
 {
     at <= then.at && then.at - at <= length
@@ -65,7 +65,7 @@ fn is_touched(then: Seen, at: usize, length: usize) -> bool
 
 /// Whether a text is refused further on where so many bytes were written at a place: in the order of refusals or, for the same one, in that of the text, and
 /// not there.
-pub fn is_further(before: Seen, then: Seen, at: usize, length: usize) -> bool
+pub fn is_further(before: RankedRefusal, then: RankedRefusal, at: usize, length: usize) -> bool
     ensures { result ≡ is_further before then at length }
 {
     let is_behind = before.rank == then.rank && then.left < before.left;

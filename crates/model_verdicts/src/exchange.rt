@@ -7,7 +7,7 @@ use std::alloc::{AllocError, Global};
 
 /// What is written without a part of the text.
 #[derive(Clone, Copy, Debug, PartialEq, Eq)]
-pub enum Sign {
+pub enum WrittenSign {
     Nothing,
     Semicolon,
     /// A `;` in front of a token.
@@ -28,26 +28,26 @@ pub enum Sign {
     Od,
 }
 
-impl Sign {
+impl WrittenSign {
     /// How it is written.
     pub fn bytes(self) -> &'static [u8]
         ensures { result.now ≡ bytes_of self }
     {
         match self {
-            Sign::Nothing => b"",
-            Sign::Semicolon => b";",
-            Sign::SemicolonBefore => b"; ",
-            Sign::Option => b"::",
-            Sign::OptionBefore => b":: ",
-            Sign::Arrow => b"->",
-            Sign::CommaBefore => b", ",
-            Sign::RunBefore => b"run ",
-            Sign::Parentheses => b"()",
-            Sign::CloseParen => b")",
-            Sign::CloseBracket => b"]",
-            Sign::CloseBrace => b"} ",
-            Sign::Fi => b"fi ",
-            Sign::Od => b"od ",
+            WrittenSign::Nothing => b"",
+            WrittenSign::Semicolon => b";",
+            WrittenSign::SemicolonBefore => b"; ",
+            WrittenSign::Option => b"::",
+            WrittenSign::OptionBefore => b":: ",
+            WrittenSign::Arrow => b"->",
+            WrittenSign::CommaBefore => b", ",
+            WrittenSign::RunBefore => b"run ",
+            WrittenSign::Parentheses => b"()",
+            WrittenSign::CloseParen => b")",
+            WrittenSign::CloseBracket => b"]",
+            WrittenSign::CloseBrace => b"} ",
+            WrittenSign::Fi => b"fi ",
+            WrittenSign::Od => b"od ",
         }
     }
 }
@@ -55,14 +55,14 @@ impl Sign {
 /// What is written in place of a part of a text.
 #[derive(Clone, Copy, Debug, PartialEq, Eq)]
 pub enum Words {
-    Sign(Sign),
+    Sign(WrittenSign),
     /// What stands behind so many bytes of the text, and how many bytes it has.
     Copy(usize, usize),
 }
 
 /// A part of a text that is exchanged: how many bytes stand before it, how many it has, and what is written in its place.
 #[derive(Clone, Copy, Debug, PartialEq, Eq)]
-pub struct Exchange {
+pub struct ExchangedPart {
     pub at: usize,
     pub length: usize,
     pub words: Words,
@@ -101,7 +101,7 @@ fn behind(text: &[u8], count: usize) -> &[u8]
 }
 
 /// The text with a part of it exchanged.
-pub fn exchanged(alloc: Global, text: &[u8], exchange: Exchange) -> Result<Vec<u8>, AllocError>
+pub fn exchanged(alloc: Global, text: &[u8], exchange: ExchangedPart) -> Result<Vec<u8>, AllocError>
     ensures { IfOk result (λ t. t.items ≡ exchanged text.now exchange) }
 {
     let mut out = Vec::new(alloc);

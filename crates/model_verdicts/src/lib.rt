@@ -14,6 +14,6 @@ mod syntax;
 mod verdict;
 
 pub use all::{MOST_BYTES, MOST_VERDICTS, most_for, verdicts_of};
-pub use exchange::{Exchange, Sign, Words, exchanged, words_of};
-pub use offered::{Part, remedy_at};
+pub use exchange::{ExchangedPart, Words, WrittenSign, exchanged, words_of};
+pub use offered::{SelectedPart, remedy_at};
 pub use verdict::{Verdict, verdict_of};

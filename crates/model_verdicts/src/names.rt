@@ -3,16 +3,16 @@
 ghost use Rattle.std.specs.Prelude.{◌≡◌};
 ghost use Rattle.model_verdicts.specs.Causes.{by_near, by_unknown, by_label, by_cause};
 
-use crate::exchange::{Exchange, Sign, Words};
+use crate::exchange::{ExchangedPart, Words, WrittenSign};
 use crate::syntax::{by_syntax, inserted};
-use explain_cause::cause::{Cause, LabelCause, Named, Segment, UnknownCause};
+use explain_cause::cause::{LabelCause, Named, Reason, Segment, UnknownCause};
 
 /// The name nearest to it, if there is one, in place of a name.
-fn by_near(place: Segment, near: Option<Named<'_>>) -> Option<Exchange>
+fn by_near(place: Segment, near: Option<Named<'_>>) -> Option<ExchangedPart>
     ensures { result ≡ by_near place near.entry }
 {
     match near {
-        Some(near) => Some(Exchange {
+        Some(near) => Some(ExchangedPart {
             at: place.offset,
             length: place.length,
             words: Words::Copy(near.offset, near.name.len()),
@@ -21,7 +21,7 @@ fn by_near(place: Segment, near: Option<Named<'_>>) -> Option<Exchange>
     }
 }
 
-fn by_unknown(place: Segment, cause: UnknownCause<'_>) -> Option<Exchange>
+fn by_unknown(place: Segment, cause: UnknownCause<'_>) -> Option<ExchangedPart>
     ensures { result ≡ by_unknown place cause.entry }
 {
     match cause {
@@ -29,13 +29,13 @@ fn by_unknown(place: Segment, cause: UnknownCause<'_>) -> Option<Exchange>
         UnknownCause::Field(_, _, near) => by_near(place, near),
         UnknownCause::Inline(_) => Some(inserted(
             place.offset.saturating_add(place.length),
-            Sign::Parentheses,
+            WrittenSign::Parentheses,
         )),
         _ => None,
     }
 }
 
-fn by_label(place: Segment, cause: LabelCause<'_>) -> Option<Exchange>
+fn by_label(place: Segment, cause: LabelCause<'_>) -> Option<ExchangedPart>
     ensures { result ≡ by_label place cause.entry }
 {
     match cause {
@@ -45,13 +45,13 @@ fn by_label(place: Segment, cause: LabelCause<'_>) -> Option<Exchange>
 }
 
 /// What is exchanged where a text is refused at a place for this.
-pub fn by_cause(place: Segment, cause: Cause<'_>) -> Option<Exchange>
+pub fn by_cause(place: Segment, cause: Reason<'_>) -> Option<ExchangedPart>
     ensures { result ≡ by_cause place cause.entry }
 {
     match cause {
-        Cause::Syntax(cause) => by_syntax(place, cause.wanted),
-        Cause::Unknown(cause) => by_unknown(place, cause),
-        Cause::Label(cause) => by_label(place, cause),
+        Reason::Syntax(cause) => by_syntax(place, cause.wanted),
+        Reason::Unknown(cause) => by_unknown(place, cause),
+        Reason::Label(cause) => by_label(place, cause),
         _ => None,
     }
 }

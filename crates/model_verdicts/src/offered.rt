@@ -6,7 +6,7 @@ ghost use Rattle.model_verdicts.specs.Better.{IsMended, touches, IsOffered};
 
 use crate::all::most_for;
 use crate::better::{is_further, seen_by};
-use crate::exchange::{Exchange, exchanged, words_of};
+use crate::exchange::{ExchangedPart, exchanged, words_of};
 use crate::names::by_cause;
 use crate::verdict::{Verdict, verdict_of};
 use explain_cause::cause::{Finding, Segment};
@@ -16,7 +16,7 @@ use text_parts::rest_of;
 
 /// A part of a text, from one byte up to another.
 #[derive(Clone, Copy, Debug, PartialEq, Eq)]
-pub struct Part {
+pub struct SelectedPart {
     pub from: usize,
     pub to: usize,
 }
@@ -26,7 +26,7 @@ fn is_mended(
     alloc: Global,
     text: &[u8],
     verdict: &Verdict,
-    exchange: Exchange,
+    exchange: ExchangedPart,
 ) -> Result<bool, AllocError>
     ensures { IfOk result (λ b. OnTrue b (IsMended text.now verdict.now exchange)) }
 {
@@ -42,7 +42,11 @@ fn is_mended(
 }
 
 /// What mends a text that is refused so.
-fn mending(alloc: Global, text: &[u8], verdict: &Verdict) -> Result<Option<Exchange>, AllocError>
+fn mending(
+    alloc: Global,
+    text: &[u8],
+    verdict: &Verdict,
+) -> Result<Option<ExchangedPart>, AllocError>
     ensures { IfOk result (λ o. IfSome o (IsMended text.now verdict.now)) }
 {
     let Finding { place, cause } = cause_of(alloc, text, verdict.refusal)?;
@@ -60,7 +64,7 @@ fn mending(alloc: Global, text: &[u8], verdict: &Verdict) -> Result<Option<Excha
 }
 
 /// Whether a place touches a part of the text.
-fn touches(place: Segment, part: Part) -> bool
+fn touches(place: Segment, part: SelectedPart) -> bool
     ensures { result ≡ touches place part }
 {
     place.offset <= part.to && part.from <= place.offset.saturating_add(place.length)
@@ -70,9 +74,9 @@ fn touches(place: Segment, part: Part) -> bool
 fn offered(
     alloc: Global,
     text: &[u8],
-    part: Part,
+    part: SelectedPart,
     count: usize,
-) -> Result<Option<Exchange>, AllocError>
+) -> Result<Option<ExchangedPart>, AllocError>
     ensures { IfOk result (λ o. IfSome o (λ e. IsOffered e text.now)) }
 {
     if count == 0 {
@@ -95,7 +99,11 @@ fn offered(
 
 /// What mends the first refusal of a text that touches a part of it, among its own and those of the text without the bodies in which one lies: an exchange with
 /// which that text is played, or refused further on.
-pub fn remedy_at(alloc: Global, text: &[u8], part: Part) -> Result<Option<Exchange>, AllocError>
+pub fn remedy_at(
+    alloc: Global,
+    text: &[u8],
+    part: SelectedPart,
+) -> Result<Option<ExchangedPart>, AllocError>
     ensures { IfOk result (λ o. IfSome o (λ e. IsOffered e text.now)) }
 {
     offered(alloc, text, part, most_for(text))

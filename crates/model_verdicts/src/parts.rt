@@ -32,7 +32,7 @@ pub fn is_name(alloc: Global, text: &[u8]) -> Result<bool, AllocError>
 
 /// Which meaning of its own a label has by how it begins.
 #[derive(Clone, Copy, Debug, PartialEq, Eq)]
-pub enum Front {
+pub enum LabelPrefix {
     End,
     Progress,
     Accept,
@@ -40,16 +40,16 @@ pub enum Front {
 }
 
 /// How a label begins.
-pub fn front_of(name: &[u8]) -> Front
+pub fn front_of(name: &[u8]) -> LabelPrefix
     ensures { result ≡ front_of name.now }
 {
     if name.starts_with(b"end") {
-        Front::End
+        LabelPrefix::End
     } else if name.starts_with(b"progress") {
-        Front::Progress
+        LabelPrefix::Progress
     } else if name.starts_with(b"accept") {
-        Front::Accept
+        LabelPrefix::Accept
     } else {
-        Front::Plain
+        LabelPrefix::Plain
     }
 }

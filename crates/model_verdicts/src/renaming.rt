@@ -8,12 +8,12 @@ ghost use Rattle.model_names.specs.Found.{name_at, is_label_there};
 ghost use Rattle.model_verdicts.specs.Alike.{AreMoved};
 ghost use Rattle.model_verdicts.specs.Renamed.{name_in, IsRenaming, IsReplaced, IsValid};
 
-use crate::alike::{Exchange, are_moved};
+use crate::alike::{ExchangedNames, are_moved};
 use crate::parts::{front_of, is_name};
 use crate::replaced::replaced;
 use crate::verdict::verdict_of;
 use diagnostics::Refusal;
-use model_names::{Names, Occurrence, names_of};
+use model_names::{Occurrence, TextNames, names_of};
 use source_lines::position::between;
 use std::alloc::{AllocError, Global};
 
@@ -55,7 +55,7 @@ fn name_in<'t>(text: &'t [u8], found: Occurrence) -> &'t [u8]
 pub fn target_at(
     alloc: Global,
     text: &[u8],
-    names: &Names,
+    names: &TextNames,
     offset: usize,
 ) -> Result<Option<Occurrence>, AllocError>
     ensures { IfOk result (λ o. IfSome o (λ f. name_at names.now offset ≡ Some f)) }
@@ -71,13 +71,13 @@ pub fn target_at(
 }
 
 /// Whether a label would mean more or less by how it begins.
-fn is_other_label(names: &Names, text: &[u8], found: Occurrence, name: &[u8]) -> bool
+fn is_other_label(names: &TextNames, text: &[u8], found: Occurrence, name: &[u8]) -> bool
     ensures { OnTrue result (list_any (is_label_there found.declared) names.now.declarations.items ≡ true) }
 {
     names.has_label(found.declared) && front_of(name_in(text, found)) != front_of(name)
 }
 
-fn is_same(names: &Names, other: &Names, exchange: Exchange<'_>) -> bool
+fn is_same(names: &TextNames, other: &TextNames, exchange: ExchangedNames<'_>) -> bool
     ensures { OnTrue result (AreMoved exchange.entry.places.now exchange.entry.before exchange.entry.then names.now.meant.items other.now.meant.items) }
 {
     are_moved(exchange, &names.meant, &other.meant)
@@ -87,7 +87,7 @@ fn is_same(names: &Names, other: &Names, exchange: Exchange<'_>) -> bool
 /// The renamed text, if it stands for a model in which each name means what it meant.
 fn validated(
     alloc: Global,
-    names: &Names,
+    names: &TextNames,
     renaming: Renaming,
     then: usize,
 ) -> Result<Result<Renaming, NoRenaming>, AllocError>
@@ -99,7 +99,7 @@ fn validated(
     let Some(other) = names_of(alloc, &renaming.text)? else {
         return Ok(Err(NoRenaming::OtherMeaning));
     };
-    let exchange = Exchange {
+    let exchange = ExchangedNames {
         places: &renaming.places,
         before: renaming.length,
         then,
@@ -115,7 +115,7 @@ fn validated(
 fn exchanged(
     alloc: Global,
     text: &[u8],
-    names: &Names,
+    names: &TextNames,
     found: Occurrence,
     name: &[u8],
 ) -> Result<Renaming, AllocError>
@@ -135,7 +135,7 @@ fn exchanged(
 pub fn renamed(
     alloc: Global,
     text: &[u8],
-    names: &Names,
+    names: &TextNames,
     offset: usize,
     name: &[u8],
 ) -> Result<Result<Renaming, NoRenaming>, AllocError>

@@ -3,14 +3,14 @@
 ghost use Rattle.std.specs.Prelude.{◌≡◌};
 ghost use Rattle.model_verdicts.specs.Causes.{inserted, in_place, closer_of, behind, by_sign, by_closer, by_syntax};
 
-use crate::exchange::{Exchange, Sign, Words};
-use explain_cause::cause::{Named, Segment, Wanted};
+use crate::exchange::{ExchangedPart, Words, WrittenSign};
+use explain_cause::cause::{Expected, Named, Segment};
 
 /// A sign in front of what stands behind so many bytes.
-pub fn inserted(at: usize, sign: Sign) -> Exchange
+pub fn inserted(at: usize, sign: WrittenSign) -> ExchangedPart
     ensures { result ≡ inserted at sign }
 {
-    Exchange {
+    ExchangedPart {
         at,
         length: 0,
         words: Words::Sign(sign),
@@ -18,10 +18,10 @@ pub fn inserted(at: usize, sign: Sign) -> Exchange
 }
 
 /// A sign in place of a part of the text.
-fn in_place(at: usize, length: usize, sign: Sign) -> Exchange
+fn in_place(at: usize, length: usize, sign: WrittenSign) -> ExchangedPart
     ensures { result ≡ in_place at length sign }
 {
-    Exchange {
+    ExchangedPart {
         at,
         length,
         words: Words::Sign(sign),
@@ -29,69 +29,80 @@ fn in_place(at: usize, length: usize, sign: Sign) -> Exchange
 }
 
 /// What closes this.
-fn closer_of(opener: &[u8]) -> Sign
+fn closer_of(opener: &[u8]) -> WrittenSign
     ensures { result ≡ closer_of opener.now }
 {
     if opener == b"(".as_slice() {
-        Sign::CloseParen
+        WrittenSign::CloseParen
     } else if opener == b"[".as_slice() {
-        Sign::CloseBracket
+        WrittenSign::CloseBracket
     } else if opener == b"{".as_slice() {
-        Sign::CloseBrace
+        WrittenSign::CloseBrace
     } else if opener == b"if".as_slice() {
-        Sign::Fi
+        WrittenSign::Fi
     } else {
-        Sign::Od
+        WrittenSign::Od
     }
 }
 
 /// A `;` behind a word of the text.
-fn behind(word: Named<'_>) -> Exchange
+fn behind(word: Named<'_>) -> ExchangedPart
     ensures { result ≡ behind word.entry }
 {
-    inserted(word.offset.saturating_add(word.name.len()), Sign::Semicolon)
+    inserted(
+        word.offset.saturating_add(word.name.len()),
+        WrittenSign::Semicolon,
+    )
 }
 
 /// Where what closes is wanted.
-fn by_closer(place: Segment, wanted: Wanted<'_>) -> Option<Exchange>
+fn by_closer(place: Segment, wanted: Expected<'_>) -> Option<ExchangedPart>
     ensures { result ≡ by_closer place wanted.entry }
 {
     match wanted {
-        Wanted::Closer(opener) => Some(inserted(place.offset, closer_of(opener.name))),
-        Wanted::CloserBefore(opener) => Some(inserted(place.offset, closer_of(opener.name))),
-        Wanted::CloserByLayout(opener) => Some(inserted(place.offset, closer_of(opener.name))),
-        Wanted::CloserBeforeArrow(opener, arrow) => Some(inserted(
+        Expected::Closer(opener) => Some(inserted(place.offset, closer_of(opener.name))),
+        Expected::CloserBefore(opener) => Some(inserted(place.offset, closer_of(opener.name))),
+        Expected::CloserByLayout(opener) => Some(inserted(place.offset, closer_of(opener.name))),
+        Expected::CloserBeforeArrow(opener, arrow) => Some(inserted(
             arrow.offset,
             closer_of(opener.name),
         )),
-        Wanted::RunOf(_, called) => Some(inserted(called.offset, Sign::RunBefore)),
-        Wanted::Arguments(_) => Some(inserted(place.offset, Sign::Parentheses)),
-        Wanted::Parameters(_) => Some(inserted(place.offset, Sign::Parentheses)),
-        Wanted::Nothing => Some(in_place(place.offset, place.length, Sign::Nothing)),
+        Expected::RunOf(_, called) => Some(inserted(called.offset, WrittenSign::RunBefore)),
+        Expected::Arguments(_) => Some(inserted(place.offset, WrittenSign::Parentheses)),
+        Expected::Parameters(_) => Some(inserted(place.offset, WrittenSign::Parentheses)),
+        Expected::Nothing => Some(in_place(place.offset, place.length, WrittenSign::Nothing)),
         _ => None,
     }
 }
 
 /// Where a separator or another sign is wanted.
-fn by_sign(place: Segment, wanted: Wanted<'_>) -> Option<Exchange>
+fn by_sign(place: Segment, wanted: Expected<'_>) -> Option<ExchangedPart>
     ensures { result ≡ by_sign place wanted.entry }
 {
     match wanted {
-        Wanted::SemicolonAtLineEnd(last) => Some(behind(last)),
-        Wanted::SemicolonOrOption(last) => Some(behind(last)),
-        Wanted::Semicolon => Some(inserted(place.offset, Sign::SemicolonBefore)),
-        Wanted::SemicolonFor => Some(in_place(place.offset, place.length, Sign::Semicolon)),
-        Wanted::OptionSign => Some(inserted(place.offset, Sign::OptionBefore)),
-        Wanted::OptionFor => Some(in_place(place.offset, place.length, Sign::Option)),
-        Wanted::ArrowFor(sign) => Some(in_place(sign.offset, sign.name.len(), Sign::Arrow)),
-        Wanted::Comma => Some(inserted(place.offset, Sign::CommaBefore)),
-        Wanted::CommaBefore(name) => Some(inserted(name.offset, Sign::CommaBefore)),
+        Expected::SemicolonAtLineEnd(last) => Some(behind(last)),
+        Expected::SemicolonOrOption(last) => Some(behind(last)),
+        Expected::Semicolon => Some(inserted(place.offset, WrittenSign::SemicolonBefore)),
+        Expected::SemicolonFor => Some(in_place(
+            place.offset,
+            place.length,
+            WrittenSign::Semicolon,
+        )),
+        Expected::OptionSign => Some(inserted(place.offset, WrittenSign::OptionBefore)),
+        Expected::OptionFor => Some(in_place(place.offset, place.length, WrittenSign::Option)),
+        Expected::ArrowFor(sign) => Some(in_place(
+            sign.offset,
+            sign.name.len(),
+            WrittenSign::Arrow,
+        )),
+        Expected::Comma => Some(inserted(place.offset, WrittenSign::CommaBefore)),
+        Expected::CommaBefore(name) => Some(inserted(name.offset, WrittenSign::CommaBefore)),
         _ => None,
     }
 }
 
 /// What is exchanged where this is wanted at a place.
-pub fn by_syntax(place: Segment, wanted: Wanted<'_>) -> Option<Exchange>
+pub fn by_syntax(place: Segment, wanted: Expected<'_>) -> Option<ExchangedPart>
     ensures { result ≡ by_syntax place wanted.entry }
 {
     match by_sign(place, wanted) {

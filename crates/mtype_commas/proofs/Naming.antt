@@ -7,10 +7,11 @@ use Rattle.pml_token.specs.declared.token.Kind.{Kind}
 use Rattle.pml_token.specs.declared.token.Kind.TheVariants as kind
 use Rattle.pml_token.specs.Word.{same_kind}
 use Rattle.prepare.specs.Written.{Written}
-use Rattle.mtype_commas.specs.declared.place.Place.{Place}
-use Rattle.mtype_commas.specs.declared.place.Place.TheVariants as place
-use Rattle.mtype_commas.specs.declared.changes.Change.TheVariants as change
-use Rattle.mtype_commas.specs.Changed.{Changed}
+use Rattle.mtype_commas.specs.declared.place.MtypePlace.{MtypePlace}
+use Rattle.mtype_commas.specs.declared.place.MtypePlace.TheVariants as place
+use Rattle.mtype_commas.specs.declared.changes.CommaChange.TheVariants as change
+use Rattle.prepare.specs.Changed.{Changed, changed}
+use Rattle.mtype_commas.specs.declared.changes.CommaChange.{CommaChange}
 use Rattle.mtype_commas.specs.Places.{behind}
 use Rattle.mtype_commas.specs.Changes as changes
 use Rattle.mtype_commas.specs.Changes.{change_at, changes_by}
@@ -78,7 +79,7 @@ record Inside (b : Bool) (ks : List Kind) : Type 0 where
   among : AmongNames ks
   named : b ≡ is_name ks
 
-abbrev Knows : Place → List Kind → Type 0
+abbrev Knows : MtypePlace → List Kind → Type 0
 Knows place.Outside ks = Known false false false ks
 Knows place.Typed ks = Known true false false ks
 Knows place.Subtyped ks = Known false true false ks
@@ -153,7 +154,7 @@ behind_within : (b : Bool) (k : Kind) (ks : List Kind) → Inside b ks → Knows
 behind_within b kind.CloseBrace ks w = record { outside = ended ks; typed = refl; subtyped = refl; assigned = refl }
 behind_within b k ks w = record { among = more k ks refl w.among; named = refl }
 
-knows : (p : Place) (k : Kind) (ks : List Kind) → Knows p ks → Knows (behind p k) (k ∷ ks)
+knows : (p : MtypePlace) (k : Kind) (ks : List Kind) → Knows p ks → Knows (behind p k) (k ∷ ks)
 knows place.Outside k ks w = behind_outside k ks w
 knows place.Typed k ks w = behind_typed k ks w
 knows place.Subtyped k ks w = behind_subtyped k ks w
@@ -162,10 +163,10 @@ knows (place.Within b) k ks w = behind_within b k ks w
 
 -- ---- what becomes of a token
 
-abbrev the : Place → Written → List Written → Changed
-the p t ts = record { gap = t.gap; token = t.token; kind = t.kind; change = change_at p t.kind ts }
+abbrev the : MtypePlace → Written → List Written → Changed CommaChange
+the p t ts = changed t (change_at p t.kind ts)
 
-spare_is : (p : Place) (ts : List Written) → is_spare (changes_by p ts) ≡ changes.is_spare ts
+spare_is : (p : MtypePlace) (ts : List Written) → is_spare (changes_by p ts) ≡ changes.is_spare ts
 spare_is p [] = refl
 spare_is p (t ∷ ts) = refl
 
@@ -191,7 +192,7 @@ named_true false s true false e = cc
 named_true false s false false e = cc
 
 -- outside of names nothing changes
-none_at : (ks : List Kind) (c : Changed) (back : List Changed) → (AmongNames ks → ⊥) → c.change ≡ change.Kept → Exact ks c back
+none_at : (ks : List Kind) (c : Changed CommaChange) (back : List (Changed CommaChange)) → (AmongNames ks → ⊥) → c.change ≡ change.Kept → Exact ks c back
 none_at ks c back none e =
     record {
       blanked = λ f. let odd : change.Kept ≡ change.Blanked = sym e ∙ f in cc;
@@ -201,7 +202,7 @@ none_at ks c back none e =
     }
 
 -- among names
-among_at : (b : Bool) (t : Written) (ts : List Written) (q : Place) (ks : List Kind) → Inside b ks → Exact ks (the (place.Within b) t ts) (changes_by q ts)
+among_at : (b : Bool) (t : Written) (ts : List Written) (q : MtypePlace) (ks : List Kind) → Inside b ks → Exact ks (the (place.Within b) t ts) (changes_by q ts)
 among_at b t ts q ks w =
     let a = same_kind t.kind kind.Comma in
     let s = changes.is_spare ts in
@@ -215,24 +216,24 @@ among_at b t ts q ks w =
           ∙ ap (λ (x : Bool). cond x change.Parted change.Kept) (w.named ∙ h.next);
     }
 
-at_token : (p : Place) (t : Written) (ts : List Written) (q : Place) (ks : List Kind) → Knows p ks → Exact ks (the p t ts) (changes_by q ts)
+at_token : (p : MtypePlace) (t : Written) (ts : List Written) (q : MtypePlace) (ks : List Kind) → Knows p ks → Exact ks (the p t ts) (changes_by q ts)
 at_token place.Outside t ts q ks w = none_at ks (the place.Outside t ts) (changes_by q ts) w.outside refl
 at_token place.Typed t ts q ks w = none_at ks (the place.Typed t ts) (changes_by q ts) w.outside refl
 at_token place.Subtyped t ts q ks w = none_at ks (the place.Subtyped t ts) (changes_by q ts) w.outside refl
 at_token place.Assigned t ts q ks w = none_at ks (the place.Assigned t ts) (changes_by q ts) w.outside refl
 at_token (place.Within b) t ts q ks w = among_at b t ts q ks w
 
-follow : (ts : List Written) (p : Place) (ks : List Kind) → Knows p ks → (front back : List Changed) (c : Changed) → changes_by p ts ≡ front ++ c ∷ back → Exact (fold kinds_behind ks front) c back
+follow : (ts : List Written) (p : MtypePlace) (ks : List Kind) → Knows p ks → (front back : List (Changed CommaChange)) (c : Changed CommaChange) → changes_by p ts ≡ front ++ c ∷ back → Exact (fold kinds_behind ks front) c back
 follow [] p ks w [] back c e = cc
 follow [] p ks w (x ∷ front) back c e = cc
 follow (t ∷ ts) p ks w [] back c e =
     let same : the p t ts ≡ c = cc in
     let rest : changes_by (behind p t.kind) ts ≡ back = cc in
-    subst (λ (d : Changed). Exact ks d back) same (subst (λ (b : List Changed). Exact ks (the p t ts) b) rest (at_token p t ts (behind p t.kind) ks w))
+    subst (λ (d : Changed CommaChange). Exact ks d back) same (subst (λ (b : List (Changed CommaChange)). Exact ks (the p t ts) b) rest (at_token p t ts (behind p t.kind) ks w))
 follow (t ∷ ts) p ks w (x ∷ front) back c e =
     let same : the p t ts ≡ x = cc in
     let rest : changes_by (behind p t.kind) ts ≡ front ++ c ∷ back = cc in
-    subst (λ (d : Changed). Exact (fold kinds_behind (kinds_behind ks d) front) c back) same (follow ts (behind p t.kind) (t.kind ∷ ks) (knows p t.kind ks w) front back c rest)
+    subst (λ (d : Changed CommaChange). Exact (fold kinds_behind (kinds_behind ks d) front) c back) same (follow ts (behind p t.kind) (t.kind ∷ ks) (knows p t.kind ks w) front back c rest)
 
 begun : Known false false false []
 begun = record { outside = λ m. none_among_by m.inside m.before m.splits m.begun; typed = refl; subtyped = refl; assigned = refl }

@@ -10,14 +10,15 @@ use Rattle.prepare.specs.Written.{Written}
 use Rattle.prepare.specs.Stretches.{stretches}
 use Rattle.prepare.specs.Laws.{source, sources}
 use Rattle.prepare.proofs.Plain.{sources_are}
-use Rattle.mtype_commas.specs.declared.place.Place.{Place}
-use Rattle.mtype_commas.specs.declared.place.Place.TheVariants as place
-use Rattle.mtype_commas.specs.declared.changes.Change.TheVariants as change
+use Rattle.mtype_commas.specs.declared.place.MtypePlace.{MtypePlace}
+use Rattle.mtype_commas.specs.declared.place.MtypePlace.TheVariants as place
+use Rattle.mtype_commas.specs.declared.changes.CommaChange.TheVariants as change
 use Rattle.mtype_commas.specs.Places.{behind}
 use Rattle.mtype_commas.specs.Changes.{is_spare, change_at, changes_by, changes}
-use Rattle.mtype_commas.specs.Laws.{owns, IsOwn}
+use Rattle.prepare.specs.Changed.{owns}
+use Rattle.mtype_commas.specs.Laws.{IsOwn}
 
-owns_are : (p : Place) (ts : List Written) → owns (changes_by p ts) ≡ sources ts
+owns_are : (p : MtypePlace) (ts : List Written) → owns (changes_by p ts) ≡ sources ts
 owns_are p [] = refl
 owns_are p (t ∷ ts) = ap (λ (xs : List ℕ). source t ++ xs) (owns_are (behind p t.kind) ts)
 
@@ -44,15 +45,15 @@ parted_by true true false n e = cc
 parted_by true false false n e = cc
 parted_by false s false n e = cc
 
-blanked_is : (p : Place) (k : Kind) (ts : List Written) → change_at p k ts ≡ change.Blanked → k ≡ kind.Comma
+blanked_is : (p : MtypePlace) (k : Kind) (ts : List Written) → change_at p k ts ≡ change.Blanked → k ≡ kind.Comma
 blanked_is (place.Within n) k ts e = is_comma k (blanked_by (same_kind k kind.Comma) (is_spare ts) (same_kind k kind.Name) n e)
 blanked_is _ k ts e = cc
 
-parted_is : (p : Place) (k : Kind) (ts : List Written) → change_at p k ts ≡ change.Parted → k ≡ kind.Name
+parted_is : (p : MtypePlace) (k : Kind) (ts : List Written) → change_at p k ts ≡ change.Parted → k ≡ kind.Name
 parted_is (place.Within n) k ts e = is_name k (parted_by (same_kind k kind.Comma) (is_spare ts) (same_kind k kind.Name) n e)
 parted_is _ k ts e = cc
 
-all_own : (p : Place) (ts : List Written) → All IsOwn (changes_by p ts)
+all_own : (p : MtypePlace) (ts : List Written) → All IsOwn (changes_by p ts)
 all_own p [] = λ k d lt. absurd (omega arith)
 all_own p (t ∷ ts) = All-cons IsOwn _ (changes_by (behind p t.kind) ts) (record { comma = blanked_is p t.kind ts; name = parted_is p t.kind ts }) (all_own (behind p t.kind) ts)
 

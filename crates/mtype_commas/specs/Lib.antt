@@ -1,5 +1,4 @@
 pub mod Places
-pub mod Changed
 pub mod Changes
 pub mod Writing
 pub mod Names

@@ -4,24 +4,24 @@ use Rattle.std.specs.List.{flat_map}
 use lib.Chars.{codes}
 use Rattle.prepare.specs.declared.TheConstants.{MOST_BYTES}
 use Rattle.prepare.specs.Stretches.{stretches}
-use Rattle.mtype_commas.specs.declared.changes.Change.{Change}
-use Rattle.mtype_commas.specs.declared.changes.Change.TheVariants as change
-use Rattle.mtype_commas.specs.Changed.{Changed}
+use Rattle.mtype_commas.specs.declared.changes.CommaChange.{CommaChange}
+use Rattle.mtype_commas.specs.declared.changes.CommaChange.TheVariants as change
+use Rattle.prepare.specs.Changed.{Changed}
 use Rattle.mtype_commas.specs.Changes.{changes}
 
 -- what stands before the gap, where the last name ends
-abbrev pub front : Change → List ℕ
+abbrev pub front : CommaChange → List ℕ
 front change.Parted = codes ","
 front _ = []
 
-abbrev pub shown : Change → List ℕ → List ℕ
+abbrev pub shown : CommaChange → List ℕ → List ℕ
 shown change.Blanked t = codes " "
 shown _ t = t
 
-abbrev pub one : Changed → List ℕ
+abbrev pub one : Changed CommaChange → List ℕ
 one c = front c.change ++ (c.gap ++ shown c.change c.token)
 
-abbrev pub written : List Changed → List ℕ
+abbrev pub written : List (Changed CommaChange) → List ℕ
 written cs = flat_map one cs
 
 abbrev pub unless_long : List ℕ → List ℕ → List ℕ

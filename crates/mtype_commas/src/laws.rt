@@ -1,10 +1,11 @@
 //! What holds of the definitions alone.
 
 ghost use Rattle.std.specs.Prelude.{◌≡◌, List, ℕ, All};
+ghost use Rattle.prepare.specs.Changed.{owns};
 ghost use Rattle.prepare.specs.Stretches.{stretches};
 ghost use Rattle.prepare.specs.Written.{Written};
 ghost use Rattle.mtype_commas.specs.Changes.{changes};
-ghost use Rattle.mtype_commas.specs.Laws.{owns, IsOwn};
+ghost use Rattle.mtype_commas.specs.Laws.{IsOwn};
 ghost use Rattle.mtype_commas.specs.Names.{CommasAreExact};
 
 /// Nothing is left out of what becomes of the tokens: gaps and tokens, one behind the other, are the text. So what is between tokens stays, and

@@ -7,7 +7,7 @@ use pml_token::token::{Kind, same_kind};
 
 /// What is known before a token.
 #[derive(Clone, Copy)]
-pub enum Place {
+pub enum MtypePlace {
     Outside,
     /// Behind `mtype`, or behind the name of a subtype of it.
     Typed,
@@ -20,60 +20,60 @@ pub enum Place {
 }
 
 /// Behind a token outside.
-fn behind_other(kind: Kind) -> Place
+fn behind_other(kind: Kind) -> MtypePlace
     ensures { result ≡ places.behind_other kind }
 {
     if same_kind(kind, Kind::Mtype) {
-        Place::Typed
+        MtypePlace::Typed
     } else {
-        Place::Outside
+        MtypePlace::Outside
     }
 }
 
 /// Behind a token that follows a type.
-fn behind_type(kind: Kind) -> Place
+fn behind_type(kind: Kind) -> MtypePlace
     ensures { result ≡ places.behind_type kind }
 {
     match kind {
-        Kind::Colon => Place::Subtyped,
-        Kind::Assign => Place::Assigned,
-        Kind::OpenBrace => Place::Within(false),
+        Kind::Colon => MtypePlace::Subtyped,
+        Kind::Assign => MtypePlace::Assigned,
+        Kind::OpenBrace => MtypePlace::Within(false),
         _ => behind_other(kind),
     }
 }
 
 /// Behind a token among names.
-fn behind_within(kind: Kind) -> Place
+fn behind_within(kind: Kind) -> MtypePlace
     ensures { result ≡ places.behind_within kind }
 {
     if same_kind(kind, Kind::CloseBrace) {
-        Place::Outside
+        MtypePlace::Outside
     } else {
-        Place::Within(same_kind(kind, Kind::Name))
+        MtypePlace::Within(same_kind(kind, Kind::Name))
     }
 }
 
 /// What is known behind a token.
-pub fn behind(place: Place, kind: Kind) -> Place
+pub fn behind(place: MtypePlace, kind: Kind) -> MtypePlace
     ensures { result ≡ places.behind place kind }
 {
     match place {
-        Place::Outside => behind_other(kind),
-        Place::Typed => behind_type(kind),
-        Place::Subtyped => {
+        MtypePlace::Outside => behind_other(kind),
+        MtypePlace::Typed => behind_type(kind),
+        MtypePlace::Subtyped => {
             if same_kind(kind, Kind::Name) {
-                Place::Typed
+                MtypePlace::Typed
             } else {
                 behind_other(kind)
             }
         }
-        Place::Assigned => {
+        MtypePlace::Assigned => {
             if same_kind(kind, Kind::OpenBrace) {
-                Place::Within(false)
+                MtypePlace::Within(false)
             } else {
                 behind_other(kind)
             }
         }
-        Place::Within(_) => behind_within(kind),
+        MtypePlace::Within(_) => behind_within(kind),
     }
 }

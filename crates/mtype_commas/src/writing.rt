@@ -4,19 +4,20 @@ ghost use Rattle.std.specs.Prelude.{◌≡◌, ◌≤◌, ◌++◌, length, IfOk
 ghost use Rattle.prepare.specs.declared.TheConstants.{MOST_BYTES};
 ghost use Rattle.mtype_commas.specs.Writing as writing;
 
-use crate::changes::{Change, Changed, changes};
+use crate::changes::{CommaChange, changes};
 use prepare::MOST_BYTES;
+use prepare::changed::Changed;
 use prepare::stretches::stretches;
 use std::alloc::{AllocError, Global};
 
-fn add_changed(out: &mut Vec<u8>, changed: &Changed<'_>) -> Result<(), AllocError>
+fn add_changed(out: &mut Vec<u8>, changed: &Changed<'_, CommaChange>) -> Result<(), AllocError>
     ensures { OnOk result (out.new.items ≡ out.old.items ++ writing.one changed.now) }
 {
-    if matches!(changed.change(), Change::Parted) {
+    if matches!(changed.change(), CommaChange::Parted) {
         out.extend_from_slice(b",")?;
     }
     out.extend_from_slice(changed.gap())?;
-    if matches!(changed.change(), Change::Blanked) {
+    if matches!(changed.change(), CommaChange::Blanked) {
         out.extend_from_slice(b" ")
     } else {
         out.extend_from_slice(changed.token())
@@ -24,7 +25,7 @@ fn add_changed(out: &mut Vec<u8>, changed: &Changed<'_>) -> Result<(), AllocErro
 }
 
 /// What is written of all.
-pub fn written(alloc: Global, all: &[Changed<'_>]) -> Result<Vec<u8>, AllocError>
+pub fn written(alloc: Global, all: &[Changed<'_, CommaChange>]) -> Result<Vec<u8>, AllocError>
     ensures { IfOk result (λ v. v.items ≡ writing.written all.now) }
 {
     let mut out = Vec::new(alloc);

@@ -10,28 +10,29 @@ use Rattle.prepare.specs.Stretches.{stretches}
 use Rattle.prepare.specs.Laws.{source, sources}
 use Rattle.prepare.proofs.Plain.{sources_are}
 use Rattle.names_apart.specs.declared.writing.TheConstants.{MOST_JOINT}
-use Rattle.names_apart.specs.declared.scope.Scope.{Scope}
+use Rattle.names_apart.specs.declared.scope.NameScope.{NameScope}
 use Rattle.names_apart.specs.declared.labels.Labels.{Labels}
 use Rattle.names_apart.specs.Labels as labels
-use Rattle.names_apart.specs.Counted.{Counted}
+use Rattle.names_apart.specs.InlineCount.{InlineCount}
 use Rattle.names_apart.specs.Scopes.{behind, start}
 use Rattle.names_apart.specs.Tallies.{count_at}
 use Rattle.names_apart.specs.Changes.{changes_by, changes}
 use Rattle.names_apart.specs.Writing.{underscore, is_digit, run_behind, most_behind, longest_by, longest, underscores, joint}
-use Rattle.names_apart.specs.Laws.{owns, NotIn}
+use Rattle.prepare.specs.Changed.{owns}
+use Rattle.names_apart.specs.Laws.{NotIn}
 
-owns_are : (name : List ℕ) (cs : List Counted) (s : Scope) (ts : List Written) → owns (changes_by name cs s ts) ≡ sources ts
+owns_are : (name : List ℕ) (cs : List InlineCount) (s : NameScope) (ts : List Written) → owns (changes_by name cs s ts) ≡ sources ts
 owns_are name cs s [] = refl
 owns_are name cs s (t ∷ ts) = ap (λ (xs : List ℕ). source t ++ xs) (owns_are name cs (behind s name (count_at cs t.kind t.token) t.kind t.token) ts)
 
-pub owns_text : (name : List ℕ) (cs : List Counted) (text : List ℕ) → owns (changes name cs (stretches text)) ≡ text
+pub owns_text : (name : List ℕ) (cs : List InlineCount) (text : List ℕ) → owns (changes name cs (stretches text)) ≡ text
 owns_text name cs text = owns_are name cs start (stretches text) ∙ sources_are _ true begun [] text
 
-labels_own : (name : List ℕ) (cs : List Counted) (s : Labels) (ts : List Written) → owns (labels.changes_by name cs s ts) ≡ sources ts
+labels_own : (name : List ℕ) (cs : List InlineCount) (s : Labels) (ts : List Written) → owns (labels.changes_by name cs s ts) ≡ sources ts
 labels_own name cs s [] = refl
 labels_own name cs s (t ∷ ts) = ap (λ (xs : List ℕ). source t ++ xs) (labels_own name cs (labels.behind s name (count_at cs t.kind t.token) t.kind t.token ts) ts)
 
-pub labels_own_text : (name : List ℕ) (cs : List Counted) (text : List ℕ) → owns (labels.changes name cs (stretches text)) ≡ text
+pub labels_own_text : (name : List ℕ) (cs : List InlineCount) (text : List ℕ) → owns (labels.changes name cs (stretches text)) ≡ text
 labels_own_text name cs text = labels_own name cs labels.start (stretches text) ∙ sources_are _ true begun [] text
 
 -- ---- runs of underscores

@@ -5,10 +5,10 @@ use Rattle.pml_token.specs.declared.token.Kind.TheVariants as kind
 use Rattle.pml_token.specs.Word.{same_kind}
 use Rattle.prepare.specs.Written.{Written}
 use Rattle.names_apart.specs.declared.labels.Labels.{Labels}
-use Rattle.names_apart.specs.declared.changes.Change.{Change}
-use Rattle.names_apart.specs.declared.changes.Change.TheVariants as change
-use Rattle.names_apart.specs.Counted.{Counted}
-use Rattle.names_apart.specs.Changed.{Changed}
+use Rattle.names_apart.specs.declared.changes.NameChange.{NameChange}
+use Rattle.names_apart.specs.declared.changes.NameChange.TheVariants as change
+use Rattle.names_apart.specs.InlineCount.{InlineCount}
+use Rattle.prepare.specs.Changed.{Changed, changed}
 use Rattle.names_apart.specs.Scopes.{more, is_name, braces_behind, parens_behind, ends, call_behind}
 use Rattle.names_apart.specs.Tallies.{count_at, home_behind, Tallied, as_tallied}
 use Rattle.names_apart.specs.Changes.{index}
@@ -85,7 +85,7 @@ abbrev pub total : Labels → ℕ
 total s = if s.has then more s.count 1 else s.count
 
 -- an inline is counted where its body ends, if it has labels
-abbrev pub table_behind : List Counted → Labels → List ℕ → Kind → List Counted
+abbrev pub table_behind : List InlineCount → Labels → List ℕ → Kind → List InlineCount
 table_behind cs s home k = if s.is_inline && (ends_body s k && nat_lt 0 (total s)) then cs ++ record { inline = home; count = total s } ∷ [] else cs
 
 -- how many labels a body that is no inline's has at most
@@ -99,7 +99,7 @@ is_odd s name k t ts =
     (is_name name k t && (is_header s || (s.has && is_label s k ts)))
     || (ends_body s k && ((s.goes && not s.has) || (s.has && nat_lt 0 s.count)))
 
-abbrev pub labelled_by : List ℕ → Labels → List Counted → List ℕ → ℕ → Bool → List Written → Tallied
+abbrev pub labelled_by : List ℕ → Labels → List InlineCount → List ℕ → ℕ → Bool → List Written → Tallied
 labelled_by name s cs home n b [] = as_tallied cs n b
 labelled_by name s cs home n b (t ∷ ts) =
     let table = table_behind cs s home t.kind in
@@ -117,17 +117,17 @@ labelled name ts = labelled_by name start [] [] 0 false ts
 
 -- what becomes of a token: the label and each `goto` to it keep their name in a body, and have that of a parameter in an inline; behind the arguments
 -- of a call stand names for all labels of the inline
-abbrev pub change_at : Labels → List ℕ → Kind → List ℕ → List Written → Change
+abbrev pub change_at : Labels → List ℕ → Kind → List ℕ → List Written → NameChange
 change_at s name k t ts =
     if is_name name k t then (if is_label s k ts || is_target s then change.Named (index s.is_inline 1) else change.Kept)
     else (if ends_call s k then change.Passed (index s.is_inline (more s.count 1)) s.call.within s.call.is_bare else change.Kept)
 
-abbrev pub changes_by : List ℕ → List Counted → Labels → List Written → List Changed
+abbrev pub changes_by : List ℕ → List InlineCount → Labels → List Written → List (Changed NameChange)
 changes_by name cs s [] = []
 changes_by name cs s (t ∷ ts) =
-    record { gap = t.gap; token = t.token; change = change_at s name t.kind t.token ts }
+    changed t (change_at s name t.kind t.token ts)
     ∷ changes_by name cs (behind s name (count_at cs t.kind t.token) t.kind t.token ts) ts
 
 -- what becomes of the tokens of a text where the labels of a name are divided which these inlines have
-abbrev pub changes : List ℕ → List Counted → List Written → List Changed
+abbrev pub changes : List ℕ → List InlineCount → List Written → List (Changed NameChange)
 changes name cs ts = changes_by name cs start ts

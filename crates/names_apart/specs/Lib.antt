@@ -1,5 +1,4 @@
-pub mod Counted
-pub mod Changed
+pub mod InlineCount
 pub mod Scopes
 pub mod Tallies
 pub mod Changes

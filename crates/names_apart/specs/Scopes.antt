@@ -8,8 +8,8 @@ use Rattle.prepare.specs.Contexts.{deeper}
 use Rattle.prepare.specs.Sizes as sizes
 use Rattle.names_apart.specs.declared.scope.TheConstants.{MOST_NUMBER}
 use Rattle.names_apart.specs.declared.scope.Force.{Force}
-use Rattle.names_apart.specs.declared.scope.Call.{Call}
-use Rattle.names_apart.specs.declared.scope.Scope.{Scope}
+use Rattle.names_apart.specs.declared.scope.InlineCall.{InlineCall}
+use Rattle.names_apart.specs.declared.scope.NameScope.{NameScope}
 
 -- so many declarations more
 abbrev pub more : ℕ → ℕ → ℕ
@@ -42,26 +42,26 @@ parens_behind n kind.CloseParen = n - 1
 parens_behind n _ = n
 
 -- behind `(`: a call begins behind the name of an inline
-abbrev pub entered : Call → ℕ → Call
+abbrev pub entered : InlineCall → ℕ → InlineCall
 entered c parens =
     if nat_lt 0 c.within
     then record { ahead = 0; within = c.within; outer = c.outer; is_bare = true }
     else record { ahead = 0; within = c.ahead; outer = parens; is_bare = true }
 
 -- whether a `)` ends the call
-abbrev pub ends : Call → ℕ → Bool
+abbrev pub ends : InlineCall → ℕ → Bool
 ends c parens = nat_lt 0 c.within && nat_le (parens - 1) c.outer
 
 -- behind `)`
-abbrev pub left : Call → ℕ → Call
+abbrev pub left : InlineCall → ℕ → InlineCall
 left c parens = record { ahead = 0; within = if ends c parens then 0 else c.within; outer = c.outer; is_bare = false }
 
-abbrev pub call_behind : Call → ℕ → ℕ → Kind → Call
+abbrev pub call_behind : InlineCall → ℕ → ℕ → Kind → InlineCall
 call_behind c parens m kind.OpenParen = entered c parens
 call_behind c parens m kind.CloseParen = left c parens
 call_behind c parens m _ = record { ahead = m; within = c.within; outer = c.outer; is_bare = false }
 
-abbrev pub start : Scope
+abbrev pub start : NameScope
 start =
     record {
       reading = sizes.start;
@@ -75,18 +75,18 @@ start =
     }
 
 -- whether a token declares the name: a variable or a parameter, and no field
-abbrev pub declares : Scope → List ℕ → Kind → List ℕ → Bool
+abbrev pub declares : NameScope → List ℕ → Kind → List ℕ → Bool
 declares s name k t = is_name name k t && sizes.declares s.reading k
 
 -- the header of an inline
-abbrev pub is_header : Scope → Bool
+abbrev pub is_header : NameScope → Bool
 is_header s = s.is_inline && s.braces == 0
 
-abbrev pub ends_call : Scope → Kind → Bool
+abbrev pub ends_call : NameScope → Kind → Bool
 ends_call s k = same_kind k kind.CloseParen && ends s.call s.parens
 
 -- which declaration is in force behind a token
-abbrev pub force_behind : Scope → List ℕ → Kind → List ℕ → Force
+abbrev pub force_behind : NameScope → List ℕ → Kind → List ℕ → Force
 force_behind s name k t =
     if declares s name k t then (if is_header s then s.force else declared s.force s.braces)
     else (if same_kind k kind.CloseBrace then closed s.force s.braces
@@ -94,11 +94,11 @@ force_behind s name k t =
     else s.force))
 
 -- whether a token ends a body
-abbrev pub ends_body : Scope → Kind → Bool
+abbrev pub ends_body : NameScope → Kind → Bool
 ends_body s k = same_kind k kind.CloseBrace && nat_lt s.braces 2
 
 -- behind a token, which is the name of an inline that declares the name m times
-abbrev pub behind : Scope → List ℕ → ℕ → Kind → List ℕ → Scope
+abbrev pub behind : NameScope → List ℕ → ℕ → Kind → List ℕ → NameScope
 behind s name m k t =
     record {
       reading = sizes.behind s.reading k t;

@@ -6,9 +6,9 @@ use lib.Chars.{codes}
 use Rattle.prepare.specs.Written.{Written}
 use Rattle.prepare.specs.Stretches.{stretches}
 use Rattle.names_apart.specs.declared.writing.TheConstants.{MOST_JOINT}
-use Rattle.names_apart.specs.declared.changes.Change.{Change}
-use Rattle.names_apart.specs.declared.changes.Change.TheVariants as change
-use Rattle.names_apart.specs.Changed.{Changed}
+use Rattle.names_apart.specs.declared.changes.NameChange.{NameChange}
+use Rattle.names_apart.specs.declared.changes.NameChange.TheVariants as change
+use Rattle.prepare.specs.Changed.{Changed}
 use Rattle.names_apart.specs.Scopes.{more}
 use Rattle.names_apart.specs.Tallies.{Tallied, tallied, is_divided}
 use Rattle.names_apart.specs.Changes.{changes}
@@ -54,15 +54,15 @@ abbrev pub passed : List ℕ → List ℕ → ℕ → Bool → ℕ → List ℕ
 passed name joint first is_bare zero = []
 passed name joint first is_bare (suc n) = passed name joint first is_bare n ++ (divider (is_bare && n == 0) ++ numbered name joint (more first n))
 
-abbrev pub shown : List ℕ → List ℕ → Change → List ℕ → List ℕ
+abbrev pub shown : List ℕ → List ℕ → NameChange → List ℕ → List ℕ
 shown name joint change.Kept t = t
 shown name joint (change.Named n) t = numbered name joint n
 shown name joint (change.Passed first count is_bare) t = passed name joint first is_bare count ++ t
 
-abbrev pub one : List ℕ → List ℕ → Changed → List ℕ
+abbrev pub one : List ℕ → List ℕ → Changed NameChange → List ℕ
 one name joint c = c.gap ++ shown name joint c.change c.token
 
-abbrev pub written : List ℕ → List ℕ → List Changed → List ℕ
+abbrev pub written : List ℕ → List ℕ → List (Changed NameChange) → List ℕ
 written name joint cs = flat_map (one name joint) cs
 
 -- what is made of stretches where the name is divided, if it is

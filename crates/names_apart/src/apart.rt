@@ -5,7 +5,7 @@ ghost use Rattle.prepare.specs.Stretches as as_stretches;
 ghost use Rattle.names_apart.specs.Writing as writing;
 ghost use Rattle.names_apart.specs.Apart.{IsApart, IsDivision, IsLabelDivision, IsStep};
 
-use crate::candidates::{Candidate, Sort};
+use crate::candidates::{Candidate, DividedSort};
 use crate::changes::changes;
 use crate::labelled::{label_changes, labelled_of};
 use crate::tally::tally_of;
@@ -60,8 +60,8 @@ fn divided(
     ensures { IfOk result (λ o. IfSome o (λ v. IsStep joint.now stretches.now v.items)) }
 {
     match candidate.sort {
-        Sort::Variables => with_variables(alloc, candidate.name, joint, stretches),
-        Sort::Labels => with_labels(alloc, candidate.name, joint, stretches),
+        DividedSort::Variables => with_variables(alloc, candidate.name, joint, stretches),
+        DividedSort::Labels => with_labels(alloc, candidate.name, joint, stretches),
     }
 }
 

@@ -5,7 +5,7 @@ ghost use Rattle.names_apart.specs.declared.candidates.TheConstants.{MOST_NAMES}
 ghost use Rattle.names_apart.specs.Found as found;
 
 use crate::labels::Labels;
-use crate::scope::Scope;
+use crate::scope::NameScope;
 use prepare::stretch::Stretch;
 use std::alloc::{AllocError, Global};
 use std::collections::BTreeMap;
@@ -18,7 +18,7 @@ const MOST_LENGTH: usize = 64;
 
 /// What is divided of a name.
 #[derive(Clone, Copy)]
-pub enum Sort {
+pub enum DividedSort {
     Variables,
     Labels,
 }
@@ -28,7 +28,7 @@ pub enum Sort {
 pub struct Candidate<'t> {
     pub name: &'t [u8],
     pub line: u64,
-    pub sort: Sort,
+    pub sort: DividedSort,
 }
 
 // The line behind a text.
@@ -90,7 +90,7 @@ pub fn candidates<'t>(
 {
     let mut out: Vec<Candidate<'t>> = Vec::new(alloc);
     let mut counts: BTreeMap<&'t [u8], u32> = BTreeMap::new(alloc);
-    let mut scope = Scope::start();
+    let mut scope = NameScope::start();
     let mut line = 1;
     for stretch in stretches {
         let kind = stretch.kind();
@@ -103,7 +103,7 @@ pub fn candidates<'t>(
                 Candidate {
                     name,
                     line,
-                    sort: Sort::Variables,
+                    sort: DividedSort::Variables,
                 },
                 scope.is_inline,
             )?;
@@ -128,7 +128,7 @@ fn add_labels<'t>(out: &mut Vec<Candidate<'t>>, stretches: &[Stretch<'t>]) -> Re
         let name = stretch.token();
         line = line_behind(line, stretch.gap());
         if labels.is_inline && labels.is_label(kind, back) {
-            let sort = Sort::Labels;
+            let sort = DividedSort::Labels;
             add_declared(&mut counts, out, Candidate { name, line, sort }, true)?;
         }
         line = line_behind(line, name);

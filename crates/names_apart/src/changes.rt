@@ -3,68 +3,22 @@
 ghost use Rattle.std.specs.Prelude.{◌≡◌, IfOk};
 ghost use Rattle.names_apart.specs.Changes as changes;
 
-use crate::scope::{Force, Scope, is_name, more};
-use crate::tally::{Counted, count_at};
+use crate::scope::{Force, NameScope, is_name, more};
+use crate::tally::{InlineCount, count_at};
 use pml_token::token::Kind;
+use prepare::changed::Changed;
 use prepare::stretch::Stretch;
 use std::alloc::{AllocError, Global};
-use std::marker::Model;
 
 /// What becomes of a token.
 #[derive(Clone, Copy)]
-pub enum Change {
+pub enum NameChange {
     /// It stays.
     Kept,
     /// The name with this number stands for it.
     Named(u32),
     /// Names with numbers from the first on stand before it, so many; whether nothing else stands before them.
     Passed(u32, u32, bool),
-}
-
-/// A token, with what becomes of it.
-#[derive(Drop)]
-pub struct Changed<'t> {
-    gap: &'t [u8],
-    token: &'t [u8],
-    change: Change,
-}
-
-impl<'t> Model for Changed<'t> {
-    ghost use Rattle.names_apart.specs.Changed.{Changed as Seen};
-
-    ghost Value = { Seen };
-
-    ghost view = { λ c. record { gap = c.gap.now; token = c.token.now; change = c.change } };
-}
-
-impl<'t> Changed<'t> {
-    /// A token behind a gap, with what becomes of it.
-    pub(crate) fn new(gap: &'t [u8], token: &'t [u8], change: Change) -> Changed<'t>
-        ensures { result ≡ record { gap = gap.now; token = token.now; change = change } }
-    {
-        Changed { gap, token, change }
-    }
-
-    /// The blanks and comments before the token.
-    pub fn gap(&self) -> &'t [u8]
-        ensures { result.now ≡ self.now.gap }
-    {
-        self.gap
-    }
-
-    /// The token.
-    pub fn token(&self) -> &'t [u8]
-        ensures { result.now ≡ self.now.token }
-    {
-        self.token
-    }
-
-    /// What becomes of it.
-    pub fn change(&self) -> Change
-        ensures { result ≡ self.now.change }
-    {
-        self.change
-    }
 }
 
 // The number that is written: in an inline one more, since there the name is a parameter, which is to be no field.
@@ -86,7 +40,7 @@ fn first(force: Force) -> u32
 }
 
 // The declaration that a token is of.
-fn force_at(scope: Scope, name: &[u8], kind: Kind, token: &[u8]) -> Force
+fn force_at(scope: NameScope, name: &[u8], kind: Kind, token: &[u8]) -> Force
     ensures { result ≡ changes.force_at scope name.now kind token.now }
 {
     if scope.declares(name, kind, token) {
@@ -96,56 +50,52 @@ fn force_at(scope: Scope, name: &[u8], kind: Kind, token: &[u8]) -> Force
     }
 }
 
-fn named(is_inline: bool, force: Force) -> Change
+fn named(is_inline: bool, force: Force) -> NameChange
     ensures { result ≡ changes.named is_inline force }
 {
     if force.level > 0 {
-        Change::Named(index(is_inline, force.number))
+        NameChange::Named(index(is_inline, force.number))
     } else {
-        Change::Kept
+        NameChange::Kept
     }
 }
 
-fn change_at(scope: Scope, name: &[u8], kind: Kind, token: &[u8]) -> Change
+fn change_at(scope: NameScope, name: &[u8], kind: Kind, token: &[u8]) -> NameChange
     ensures { result ≡ changes.change_at scope name.now kind token.now }
 {
     if is_name(name, kind, token) {
         if scope.is_field || scope.is_header() {
-            return Change::Kept;
+            return NameChange::Kept;
         }
         return named(scope.is_inline, force_at(scope, name, kind, token));
     }
     if scope.ends_call(kind) {
         let call = scope.call;
-        return Change::Passed(
+        return NameChange::Passed(
             index(scope.is_inline, first(scope.force)),
             call.within,
             call.is_bare,
         );
     }
-    Change::Kept
+    NameChange::Kept
 }
 
 /// What becomes of the tokens of a text where a name is divided which these inlines declare.
 pub fn changes<'t>(
     alloc: Global,
     name: &[u8],
-    table: &[Counted<'_>],
+    table: &[InlineCount<'_>],
     stretches: &[Stretch<'t>],
-) -> Result<Vec<Changed<'t>>, AllocError>
+) -> Result<Vec<Changed<'t, NameChange>>, AllocError>
     ensures { IfOk result (λ v. v.items ≡ changes.changes name.now table.now stretches.now) }
 {
     let mut out = Vec::new(alloc);
-    let mut scope = Scope::start();
+    let mut scope = NameScope::start();
     let mut rest = stretches;
     while let [stretch, back @ ..] = rest {
         let kind = stretch.kind();
         let token = stretch.token();
-        out.push(Changed {
-            gap: stretch.gap(),
-            token,
-            change: change_at(scope, name, kind, token),
-        })?;
+        out.push(Changed::new(stretch, change_at(scope, name, kind, token)))?;
         scope = scope.behind(name, count_at(table, kind, token), kind, token);
         rest = back;
     }

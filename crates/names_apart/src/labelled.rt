@@ -4,17 +4,18 @@ ghost use Rattle.std.specs.Prelude.{◌≡◌, IfOk, OnOk};
 ghost use Rattle.names_apart.specs.Tallies.{as_tallied};
 ghost use Rattle.names_apart.specs.Labels as rules;
 
-use crate::changes::{Change, Changed, index};
+use crate::changes::{NameChange, index};
 use crate::labels::Labels;
 use crate::scope::{is_name, more};
-use crate::tally::{Counted, Tally, count_at, home_behind};
+use crate::tally::{DeclarationTally, InlineCount, count_at, home_behind};
 use pml_token::token::Kind;
+use prepare::changed::Changed;
 use prepare::stretch::Stretch;
 use std::alloc::{AllocError, Global};
 
 // Adds the inline whose body a token ends, if it has labels.
 fn add_counted<'t>(
-    table: &mut Vec<Counted<'t>>,
+    table: &mut Vec<InlineCount<'t>>,
     labels: Labels,
     home: &'t [u8],
     kind: Kind,
@@ -23,7 +24,7 @@ fn add_counted<'t>(
 {
     let total = labels.total();
     if labels.is_inline && (labels.ends_body(kind) && total > 0) {
-        table.push(Counted::new(home, total))?;
+        table.push(InlineCount::new(home, total))?;
     }
     Ok(())
 }
@@ -53,10 +54,10 @@ pub fn labelled_of<'t>(
     alloc: Global,
     name: &[u8],
     stretches: &[Stretch<'t>],
-) -> Result<Tally<'t>, AllocError>
+) -> Result<DeclarationTally<'t>, AllocError>
     ensures { IfOk result (λ t. as_tallied t.table.items t.most t.is_left ≡ rules.labelled name.now stretches.now) }
 {
-    let mut table: Vec<Counted<'t>> = Vec::new(alloc);
+    let mut table: Vec<InlineCount<'t>> = Vec::new(alloc);
     let mut labels = Labels::start();
     let mut home: &'t [u8] = b"";
     let mut most = 0;
@@ -72,40 +73,46 @@ pub fn labelled_of<'t>(
         labels = labels.behind(name, count_at(&table, kind, token), kind, token, back);
         rest = back;
     }
-    Ok(Tally {
+    Ok(DeclarationTally {
         table,
         most,
         is_left,
     })
 }
 
-fn change_at(labels: Labels, name: &[u8], kind: Kind, token: &[u8], back: &[Stretch<'_>]) -> Change
+fn change_at(
+    labels: Labels,
+    name: &[u8],
+    kind: Kind,
+    token: &[u8],
+    back: &[Stretch<'_>],
+) -> NameChange
     ensures { result ≡ rules.change_at labels name.now kind token.now back.now }
 {
     if is_name(name, kind, token) {
         if labels.is_label(kind, back) || labels.is_target() {
-            return Change::Named(index(labels.is_inline, 1));
+            return NameChange::Named(index(labels.is_inline, 1));
         }
-        return Change::Kept;
+        return NameChange::Kept;
     }
     if labels.ends_call(kind) {
         let call = labels.call;
-        return Change::Passed(
+        return NameChange::Passed(
             index(labels.is_inline, more(labels.count, 1)),
             call.within,
             call.is_bare,
         );
     }
-    Change::Kept
+    NameChange::Kept
 }
 
 /// What becomes of the tokens of a text where the labels of a name are divided which these inlines have.
 pub fn label_changes<'t>(
     alloc: Global,
     name: &[u8],
-    table: &[Counted<'_>],
+    table: &[InlineCount<'_>],
     stretches: &[Stretch<'t>],
-) -> Result<Vec<Changed<'t>>, AllocError>
+) -> Result<Vec<Changed<'t, NameChange>>, AllocError>
     ensures { IfOk result (λ v. v.items ≡ rules.changes name.now table.now stretches.now) }
 {
     let mut out = Vec::new(alloc);
@@ -114,11 +121,7 @@ pub fn label_changes<'t>(
     while let [stretch, back @ ..] = rest {
         let kind = stretch.kind();
         let token = stretch.token();
-        out.push(Changed::new(
-            stretch.gap(),
-            token,
-            change_at(labels, name, kind, token, back),
-        ))?;
+        out.push(Changed::new(stretch, change_at(labels, name, kind, token, back)))?;
         labels = labels.behind(name, count_at(table, kind, token), kind, token, back);
         rest = back;
     }

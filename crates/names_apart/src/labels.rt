@@ -3,7 +3,7 @@
 ghost use Rattle.std.specs.Prelude.{◌≡◌};
 ghost use Rattle.names_apart.specs.Labels as labels;
 
-use crate::scope::{Call, braces_behind, is_name, more, parens_behind};
+use crate::scope::{InlineCall, braces_behind, is_name, more, parens_behind};
 use pml_token::token::{Kind, same_kind};
 use prepare::stretch::Stretch;
 
@@ -24,7 +24,7 @@ pub struct Labels {
     pub goes: bool,
     /// How many labels the calls of this body have so far.
     pub count: u32,
-    pub call: Call,
+    pub call: InlineCall,
 }
 
 fn is_between(kind: Kind) -> bool
@@ -66,7 +66,7 @@ impl Labels {
             has: false,
             goes: false,
             count: 0,
-            call: Call {
+            call: InlineCall {
                 ahead: 0,
                 within: 0,
                 outer: 0,

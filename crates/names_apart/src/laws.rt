@@ -4,21 +4,22 @@ ghost use Rattle.std.specs.Prelude.{◌≡◌, ◌<◌, ◌^◌, ◌++◌, List,
 ghost use Rattle.std.specs.Fmt.{decimal};
 ghost use Rattle.prepare.specs.Stretches.{stretches};
 ghost use Rattle.names_apart.specs.declared.writing.TheConstants.{MOST_JOINT};
-ghost use Rattle.names_apart.specs.Counted.{Counted};
+ghost use Rattle.names_apart.specs.InlineCount.{InlineCount};
 ghost use Rattle.names_apart.specs.Changes.{changes};
 ghost use Rattle.names_apart.specs.Labels as labels;
 ghost use Rattle.names_apart.specs.Writing.{longest, joint};
-ghost use Rattle.names_apart.specs.Laws.{owns, NotIn};
+ghost use Rattle.prepare.specs.Changed.{owns};
+ghost use Rattle.names_apart.specs.Laws.{NotIn};
 
 /// Where a name is divided nothing is left out: gaps and tokens, one behind the other, are the text. So what is between tokens stays, and each
 /// token but the name is as it was.
 pub fn tokens_are_the_text()
-    ensures { (name : List ℕ) (cs : List Counted) (text : List ℕ) → owns (changes name cs (stretches text)) ≡ text }
+    ensures { (name : List ℕ) (cs : List InlineCount) (text : List ℕ) → owns (changes name cs (stretches text)) ≡ text }
 {}
 
 /// Where labels are divided it is the same.
 pub fn label_tokens_are_the_text()
-    ensures { (name : List ℕ) (cs : List Counted) (text : List ℕ) → owns (labels.changes name cs (stretches text)) ≡ text }
+    ensures { (name : List ℕ) (cs : List InlineCount) (text : List ℕ) → owns (labels.changes name cs (stretches text)) ≡ text }
 {}
 
 /// A name with a number stands nowhere in the text in which names are divided, not even within another word.

@@ -5,7 +5,7 @@ ghost use Rattle.names_apart.specs.Scopes as scopes;
 
 use pml_token::token::{Kind, same_kind};
 use prepare::context::deeper;
-use prepare::sizes::Reading;
+use prepare::sizes::DeclarationReading;
 
 /// How many declarations of a name are counted in a body. What is more counts as so many.
 pub const MOST_NUMBER: u32 = 1_000;
@@ -21,7 +21,7 @@ pub struct Force {
 
 /// Whether a token stands in the call of an inline that declares the name, or in the header of one.
 #[derive(Clone, Copy)]
-pub struct Call {
+pub struct InlineCall {
     /// How often an inline declares the name whose own name was the last token.
     pub ahead: u32,
     /// How often the inline declares it whose call this is; 0 for none.
@@ -34,9 +34,9 @@ pub struct Call {
 
 /// What is known of one name before a token.
 #[derive(Clone, Copy)]
-pub struct Scope {
+pub struct NameScope {
     /// What is known of declarations.
-    pub reading: Reading,
+    pub reading: DeclarationReading,
     /// Whether the last token was a dot, behind which a field stands.
     pub is_field: bool,
     /// How many braces are open.
@@ -48,7 +48,7 @@ pub struct Scope {
     /// Whether the name is one of its parameters.
     pub is_parameter: bool,
     pub force: Force,
-    pub call: Call,
+    pub call: InlineCall,
 }
 
 /// So many declarations more.
@@ -132,19 +132,19 @@ pub(crate) fn parens_behind(parens: u32, kind: Kind) -> u32
     }
 }
 
-impl Call {
+impl InlineCall {
     /// Behind `(`, before which so many parentheses are open.
-    fn entered(self, parens: u32) -> Call
+    fn entered(self, parens: u32) -> InlineCall
         ensures { result ≡ scopes.entered self parens }
     {
         if self.within > 0 {
-            return Call {
+            return InlineCall {
                 ahead: 0,
                 is_bare: true,
                 ..self
             };
         }
-        Call {
+        InlineCall {
             ahead: 0,
             within: self.ahead,
             outer: parens,
@@ -160,10 +160,10 @@ impl Call {
     }
 
     /// Behind `)`.
-    fn left(self, parens: u32) -> Call
+    fn left(self, parens: u32) -> InlineCall
         ensures { result ≡ scopes.left self parens }
     {
-        Call {
+        InlineCall {
             ahead: 0,
             within: if self.ends(parens) { 0 } else { self.within },
             outer: self.outer,
@@ -172,13 +172,13 @@ impl Call {
     }
 
     /// Behind a token, which is the name of an inline that declares the name so often.
-    pub(crate) fn behind(self, parens: u32, count: u32, kind: Kind) -> Call
+    pub(crate) fn behind(self, parens: u32, count: u32, kind: Kind) -> InlineCall
         ensures { result ≡ scopes.call_behind self parens count kind }
     {
         match kind {
             Kind::OpenParen => self.entered(parens),
             Kind::CloseParen => self.left(parens),
-            _ => Call {
+            _ => InlineCall {
                 ahead: count,
                 within: self.within,
                 outer: self.outer,
@@ -188,13 +188,13 @@ impl Call {
     }
 }
 
-impl Scope {
+impl NameScope {
     /// The beginning of a text.
-    pub fn start() -> Scope
+    pub fn start() -> NameScope
         ensures { result ≡ scopes.start }
     {
-        Scope {
-            reading: Reading::start(),
+        NameScope {
+            reading: DeclarationReading::start(),
             is_field: false,
             braces: 0,
             parens: 0,
@@ -204,7 +204,7 @@ impl Scope {
                 number: 0,
                 level: 0,
             },
-            call: Call {
+            call: InlineCall {
                 ahead: 0,
                 within: 0,
                 outer: 0,
@@ -262,10 +262,10 @@ impl Scope {
     }
 
     /// What is known behind a token, which is the name of an inline that declares the name so often.
-    pub fn behind(self, name: &[u8], count: u32, kind: Kind, token: &[u8]) -> Scope
+    pub fn behind(self, name: &[u8], count: u32, kind: Kind, token: &[u8]) -> NameScope
         ensures { result ≡ scopes.behind self name.now count kind token.now }
     {
-        Scope {
+        NameScope {
             reading: self.reading.behind(kind, token),
             is_field: same_kind(kind, Kind::Dot),
             braces: braces_behind(self.braces, kind),

@@ -3,7 +3,7 @@
 ghost use Rattle.std.specs.Prelude.{◌≡◌, IfOk, OnOk};
 ghost use Rattle.names_apart.specs.Tallies as tallies;
 
-use crate::scope::{MOST_NUMBER, Scope, is_name};
+use crate::scope::{MOST_NUMBER, NameScope, is_name};
 use pml_token::token::{Kind, same_kind};
 use prepare::stretch::Stretch;
 use std::alloc::{AllocError, Global};
@@ -11,25 +11,25 @@ use std::marker::Model;
 
 /// How often an inline declares the name, with all that it calls.
 #[derive(Drop)]
-pub struct Counted<'t> {
+pub struct InlineCount<'t> {
     inline: &'t [u8],
     count: u32,
 }
 
-impl<'t> Model for Counted<'t> {
-    ghost use Rattle.names_apart.specs.Counted.{Counted as Seen};
+impl<'t> Model for InlineCount<'t> {
+    ghost use Rattle.names_apart.specs.InlineCount.{InlineCount as Seen};
 
     ghost Value = { Seen };
 
     ghost view = { λ c. record { inline = c.inline.now; count = c.count } };
 }
 
-impl<'t> Counted<'t> {
+impl<'t> InlineCount<'t> {
     /// An inline that declares the name so often.
-    pub(crate) fn new(inline: &'t [u8], count: u32) -> Counted<'t>
+    pub(crate) fn new(inline: &'t [u8], count: u32) -> InlineCount<'t>
         ensures { result ≡ record { inline = inline.now; count = count } }
     {
-        Counted { inline, count }
+        InlineCount { inline, count }
     }
 
     /// What the inline is called.
@@ -47,7 +47,7 @@ impl<'t> Counted<'t> {
     }
 }
 
-fn count_of(table: &[Counted<'_>], token: &[u8]) -> u32
+fn count_of(table: &[InlineCount<'_>], token: &[u8]) -> u32
     ensures { result ≡ tallies.count_of table.now token.now }
 {
     let mut rest = table;
@@ -61,7 +61,7 @@ fn count_of(table: &[Counted<'_>], token: &[u8]) -> u32
 }
 
 /// How often the inline declares the name that a token is the name of; 0 where it is none.
-pub fn count_at(table: &[Counted<'_>], kind: Kind, token: &[u8]) -> u32
+pub fn count_at(table: &[InlineCount<'_>], kind: Kind, token: &[u8]) -> u32
     ensures { result ≡ tallies.count_at table.now kind token.now }
 {
     if same_kind(kind, Kind::Name) {
@@ -73,9 +73,9 @@ pub fn count_at(table: &[Counted<'_>], kind: Kind, token: &[u8]) -> u32
 
 /// How often inlines declare a name, and what is known of all bodies.
 #[derive(Drop)]
-pub struct Tally<'t> {
+pub struct DeclarationTally<'t> {
     /// The inlines that declare it.
-    pub table: Vec<Counted<'t>>,
+    pub table: Vec<InlineCount<'t>>,
     /// How often a body that is no inline's declares it at most.
     pub most: u32,
     /// Whether it is used where no declaration is in force, or declared outside of bodies.
@@ -83,7 +83,7 @@ pub struct Tally<'t> {
 }
 
 // Whether a token is the name where no declaration of it is in force.
-fn is_free(scope: Scope, name: &[u8], kind: Kind, token: &[u8]) -> bool
+fn is_free(scope: NameScope, name: &[u8], kind: Kind, token: &[u8]) -> bool
     ensures { result ≡ tallies.is_free scope name.now kind token.now }
 {
     let is_variable = is_name(name, kind, token) && !scope.is_field;
@@ -93,14 +93,14 @@ fn is_free(scope: Scope, name: &[u8], kind: Kind, token: &[u8]) -> bool
 }
 
 // Whether a token declares the name outside of bodies and of heads.
-fn is_global(scope: Scope, name: &[u8], kind: Kind, token: &[u8]) -> bool
+fn is_global(scope: NameScope, name: &[u8], kind: Kind, token: &[u8]) -> bool
     ensures { result ≡ tallies.is_global scope name.now kind token.now }
 {
     let is_outside = scope.braces == 0 && (scope.parens == 0 && !scope.is_header());
     is_outside && scope.declares(name, kind, token)
 }
 
-fn most_behind(most: u32, scope: Scope, name: &[u8], kind: Kind, token: &[u8]) -> u32
+fn most_behind(most: u32, scope: NameScope, name: &[u8], kind: Kind, token: &[u8]) -> u32
     ensures { result ≡ tallies.most_behind most scope name.now kind token.now }
 {
     if scope.is_inline {
@@ -130,8 +130,8 @@ pub(crate) fn home_behind<'t>(home: &'t [u8], kind: Kind, back: &[Stretch<'t>]) 
 
 // Adds the inline whose body a token ends, if it declares the name.
 fn add_counted<'t>(
-    table: &mut Vec<Counted<'t>>,
-    scope: Scope,
+    table: &mut Vec<InlineCount<'t>>,
+    scope: NameScope,
     home: &'t [u8],
     kind: Kind,
 ) -> Result<(), AllocError>
@@ -139,7 +139,7 @@ fn add_counted<'t>(
 {
     let count = scope.force.number;
     if scope.is_inline && (scope.ends_body(kind) && count > 0) {
-        table.push(Counted {
+        table.push(InlineCount {
             inline: home,
             count,
         })?;
@@ -152,11 +152,11 @@ pub fn tally_of<'t>(
     alloc: Global,
     name: &[u8],
     stretches: &[Stretch<'t>],
-) -> Result<Tally<'t>, AllocError>
+) -> Result<DeclarationTally<'t>, AllocError>
     ensures { IfOk result (λ t. tallies.as_tallied t.table.items t.most t.is_left ≡ tallies.tallied name.now stretches.now) }
 {
-    let mut table: Vec<Counted<'t>> = Vec::new(alloc);
-    let mut scope = Scope::start();
+    let mut table: Vec<InlineCount<'t>> = Vec::new(alloc);
+    let mut scope = NameScope::start();
     let mut home: &'t [u8] = b"";
     let mut most = 0;
     let mut is_left = false;
@@ -172,14 +172,14 @@ pub fn tally_of<'t>(
         scope = scope.behind(name, count_at(&table, kind, token), kind, token);
         rest = back;
     }
-    Ok(Tally {
+    Ok(DeclarationTally {
         table,
         most,
         is_left,
     })
 }
 
-impl<'t> Tally<'t> {
+impl<'t> DeclarationTally<'t> {
     /// Whether the declarations of the name get names of their own: a body has several, each use has one in force, and none is outside of bodies.
     pub fn is_divided(&self) -> bool
         ensures { result ≡ tallies.is_divided self.now.most self.now.is_left }

@@ -4,10 +4,11 @@ ghost use Rattle.std.specs.Prelude.{◌≡◌, ◌++◌, IfOk, IfSome, OnOk};
 ghost use Rattle.std.specs.Fmt.{decimal};
 ghost use Rattle.names_apart.specs.Writing as writing;
 
-use crate::changes::{Change, Changed};
+use crate::changes::NameChange;
 use crate::scope::more;
 use itoa::Buffer;
 use prepare::MOST_BYTES;
+use prepare::changed::Changed;
 use std::alloc::{AllocError, Global};
 
 /// The most underscores before a digit that are told from more of them.
@@ -109,15 +110,15 @@ fn add_changed(
     out: &mut Vec<u8>,
     name: &[u8],
     joint: &[u8],
-    changed: &Changed<'_>,
+    changed: &Changed<'_, NameChange>,
 ) -> Result<(), AllocError>
     ensures { OnOk result (out.new.items ≡ out.old.items ++ writing.one name.now joint.now changed.now) }
 {
     out.extend_from_slice(changed.gap())?;
     match changed.change() {
-        Change::Kept => out.extend_from_slice(changed.token()),
-        Change::Named(number) => add_numbered(out, name, joint, number),
-        Change::Passed(first, count, is_bare) => {
+        NameChange::Kept => out.extend_from_slice(changed.token()),
+        NameChange::Named(number) => add_numbered(out, name, joint, number),
+        NameChange::Passed(first, count, is_bare) => {
             add_passed(out, name, joint, first, count, is_bare)?;
             out.extend_from_slice(changed.token())
         }
@@ -129,7 +130,7 @@ pub fn written(
     alloc: Global,
     name: &[u8],
     joint: &[u8],
-    all: &[Changed<'_>],
+    all: &[Changed<'_, NameChange>],
 ) -> Result<Option<Vec<u8>>, AllocError>
     ensures { IfOk result (λ o. IfSome o (λ v. v.items ≡ writing.written name.now joint.now all.now)) }
 {

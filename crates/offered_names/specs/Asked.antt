@@ -4,10 +4,10 @@ use Rattle.std.specs.Option.{option_map_or}
 use Rattle.pml_token.specs.declared.token.Kind.{Kind}
 use Rattle.pml_token.specs.declared.token.Kind.TheVariants as kind
 use Rattle.pml_token.specs.Word.{Word}
-use Rattle.offered_names.specs.declared.asked.Asked.{Asked}
-use Rattle.offered_names.specs.declared.asked.Asked.TheVariants.{Any, Proctype, Label, Field, Message}
+use Rattle.offered_names.specs.declared.asked.Fitting.{Fitting}
+use Rattle.offered_names.specs.declared.asked.Fitting.TheVariants.{Any, Proctype, Label, Field, Message}
 
-abbrev pub asked_after : Kind → Asked
+abbrev pub asked_after : Kind → Fitting
 asked_after kind.Run = Proctype
 asked_after kind.Goto = Label
 asked_after kind.Dot = Field
@@ -17,5 +17,5 @@ asked_after kind.Query = Message
 asked_after kind.QueryQuery = Message
 asked_after k = Any
 
-abbrev pub asked_behind : List Word → Asked
+abbrev pub asked_behind : List Word → Fitting
 asked_behind ws = option_map_or (λ w. asked_after w.kind) (slice_get ws (length ws - 1)) Any

@@ -7,7 +7,7 @@ use pml_token::token::{Kind, Token};
 
 /// What may stand at a place.
 #[derive(Clone, Copy, Debug, PartialEq, Eq)]
-pub enum Asked {
+pub enum Fitting {
     /// Any name of a variable, an mtype name or an inline, or a word.
     Any,
     /// A proctype, behind `run`.
@@ -20,24 +20,24 @@ pub enum Asked {
     Message,
 }
 
-fn asked_after(kind: Kind) -> Asked
+fn asked_after(kind: Kind) -> Fitting
     ensures { result ≡ asked_after kind }
 {
     match kind {
-        Kind::Run => Asked::Proctype,
-        Kind::Goto => Asked::Label,
-        Kind::Dot => Asked::Field,
-        Kind::Bang | Kind::BangBang | Kind::Query | Kind::QueryQuery => Asked::Message,
-        _ => Asked::Any,
+        Kind::Run => Fitting::Proctype,
+        Kind::Goto => Fitting::Label,
+        Kind::Dot => Fitting::Field,
+        Kind::Bang | Kind::BangBang | Kind::Query | Kind::QueryQuery => Fitting::Message,
+        _ => Fitting::Any,
     }
 }
 
 /// What may stand behind these tokens.
-pub fn asked_behind(tokens: &[Token<'_>]) -> Asked
+pub fn asked_behind(tokens: &[Token<'_>]) -> Fitting
     ensures { result ≡ asked_behind tokens.now }
 {
     match tokens {
         [.., token] => asked_after(token.kind()),
-        [] => Asked::Any,
+        [] => Fitting::Any,
     }
 }

@@ -8,9 +8,9 @@ mod owners;
 mod references;
 mod standing;
 
-pub use asked::{Asked, asked_behind};
+pub use asked::{Fitting, asked_behind};
 pub use gaps::{gap_end, gap_start, mended};
-pub use offers::{Wish, add_offered, name_in};
+pub use offers::{SoughtNames, add_offered, name_in};
 pub use owners::owner_at;
 pub use references::form_behind;
-pub use standing::{Standing, stands};
+pub use standing::{PlaceStanding, stands};

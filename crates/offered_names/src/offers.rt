@@ -3,15 +3,15 @@
 ghost use Rattle.std.specs.Prelude.{◌≡◌, ◌++◌, filter, OnOk};
 ghost use Rattle.offered_names.specs.Offers.{may_stand, must_precede, begins_so, is_offered, name_of};
 
-use crate::asked::Asked;
+use crate::asked::Fitting;
 use declared_names::declared::{Declaration, Stands};
 use promela_model::thing::Thing;
 use std::alloc::AllocError;
 
 /// Which names are asked for.
 #[derive(Clone, Copy)]
-pub struct Wish<'w> {
-    pub asked: Asked,
+pub struct SoughtNames<'w> {
+    pub asked: Fitting,
     /// Whose names: 0 for global ones.
     pub owner: usize,
     /// How many bytes stand before the place.
@@ -21,29 +21,29 @@ pub struct Wish<'w> {
 }
 
 /// Whether what is declared so may stand where this is asked.
-fn may_stand(asked: Asked, stands: Stands) -> bool
+fn may_stand(asked: Fitting, stands: Stands) -> bool
     ensures { result ≡ may_stand asked stands }
 {
     match (asked, stands) {
-        (Asked::Proctype, Stands::Thing(Thing::Proctype(_, _))) => true,
-        (Asked::Label, Stands::Label) => true,
-        (Asked::Field, Stands::Thing(Thing::Variable(_))) => true,
-        (Asked::Any | Asked::Message, Stands::Thing(Thing::Variable(_))) => true,
-        (Asked::Any | Asked::Message, Stands::Thing(Thing::Constant(_))) => true,
-        (Asked::Any | Asked::Message, Stands::Thing(Thing::Typedef(_, _))) => true,
-        (Asked::Any | Asked::Message, Stands::Inline) => true,
-        (Asked::Any | Asked::Message, Stands::Parameter) => true,
+        (Fitting::Proctype, Stands::Thing(Thing::Proctype(_, _))) => true,
+        (Fitting::Label, Stands::Label) => true,
+        (Fitting::Field, Stands::Thing(Thing::Variable(_))) => true,
+        (Fitting::Any | Fitting::Message, Stands::Thing(Thing::Variable(_))) => true,
+        (Fitting::Any | Fitting::Message, Stands::Thing(Thing::Constant(_))) => true,
+        (Fitting::Any | Fitting::Message, Stands::Thing(Thing::Typedef(_, _))) => true,
+        (Fitting::Any | Fitting::Message, Stands::Inline) => true,
+        (Fitting::Any | Fitting::Message, Stands::Parameter) => true,
         _ => false,
     }
 }
 
 /// Whether what is asked for has to be declared before the place.
-fn must_precede(asked: Asked) -> bool
+fn must_precede(asked: Fitting) -> bool
     ensures { result ≡ must_precede asked }
 {
     match asked {
-        Asked::Any | Asked::Message => true,
-        Asked::Proctype | Asked::Label | Asked::Field => false,
+        Fitting::Any | Fitting::Message => true,
+        Fitting::Proctype | Fitting::Label | Fitting::Field => false,
     }
 }
 
@@ -71,7 +71,7 @@ fn begins_so(name: &[u8], typed: &[u8]) -> bool
 }
 
 /// Whether a declared name is wished for.
-fn is_offered(text: &[u8], wish: Wish<'_>, declaration: &Declaration) -> bool
+fn is_offered(text: &[u8], wish: SoughtNames<'_>, declaration: &Declaration) -> bool
     ensures { result ≡ is_offered text.now wish.entry declaration.now }
 {
     declaration.owner == wish.owner
@@ -84,7 +84,7 @@ fn is_offered(text: &[u8], wish: Wish<'_>, declaration: &Declaration) -> bool
 pub fn add_offered(
     out: &mut Vec<Declaration>,
     text: &[u8],
-    wish: Wish<'_>,
+    wish: SoughtNames<'_>,
     declarations: &[Declaration],
 ) -> Result<(), AllocError>
     ensures { OnOk result (out.new.items ≡ out.old.items ++ filter (is_offered text.now wish.entry) declarations.now) }

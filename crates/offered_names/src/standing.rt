@@ -7,7 +7,7 @@ use pml_token::token::{Kind, Token, same_kind};
 
 /// Where a place stands.
 #[derive(Clone, Copy, Debug, PartialEq, Eq)]
-pub struct Standing {
+pub struct PlaceStanding {
     /// How many bytes stand before the word that begins the unit around the place, if it is in one.
     pub head: Option<usize>,
     /// Whether that unit is an inline.
@@ -27,25 +27,25 @@ fn begins_unit(kind: Kind) -> bool
 }
 
 /// Where a place stands behind one more token.
-fn passed(standing: Standing, token: &Token<'_>) -> Standing
+fn passed(standing: PlaceStanding, token: &Token<'_>) -> PlaceStanding
     requires { standing.depth + 1 < 2 ^ 64 }
     ensures is { result ≡ passed standing token.now }
     ensures few { result.depth ≤ standing.depth + 1 }
 {
     let depth = standing.depth;
     if same_kind(token.kind(), Kind::OpenBrace) {
-        Standing {
+        PlaceStanding {
             depth: depth + 1,
             ..standing
         }
     } else if same_kind(token.kind(), Kind::CloseBrace) {
-        Standing {
+        PlaceStanding {
             head: if 1 < depth { standing.head } else { None },
             is_inline: standing.is_inline,
             depth: depth.saturating_sub(1),
         }
     } else if depth == 0 && begins_unit(token.kind()) {
-        Standing {
+        PlaceStanding {
             head: Some(token.line() as usize),
             is_inline: same_kind(token.kind(), Kind::Inline),
             depth,
@@ -56,10 +56,10 @@ fn passed(standing: Standing, token: &Token<'_>) -> Standing
 }
 
 /// Where a place stands behind these tokens, which begin the text.
-pub fn stands(tokens: &[Token<'_>]) -> Standing
+pub fn stands(tokens: &[Token<'_>]) -> PlaceStanding
     ensures { result ≡ stands nowhere tokens.now }
 {
-    let mut standing = Standing {
+    let mut standing = PlaceStanding {
         head: None,
         is_inline: false,
         depth: 0,

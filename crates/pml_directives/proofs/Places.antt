@@ -6,7 +6,7 @@ use Rattle.std.proofs.lemmas.Bool.{cases_lt}
 use Rattle.std.proofs.Math.Seq.{take-length, get_or-append_seam, take-append_seam, take-append-add}
 use Rattle.std.proofs.lemmas.List.Sums.{count_by_more_yes, count_by_more_no}
 use Rattle.std.proofs.Math.ListN.{get_or-append}
-use Rattle.pml_macros.specs.declared.atom.Place.{Place}
+use Rattle.pml_macros.specs.declared.atom.FilePlace.{FilePlace}
 use Rattle.pml_directives.specs.Places.{column_from, is_feed, place_behind, past, after, offset_in, AreOf}
 
 -- a byte more of a text
@@ -55,35 +55,35 @@ rest_more (x ∷ xs) =
     let e : length (x ∷ xs) - 1 ≡ length xs = omega arith in
     rw e (take-length xs)
 
-pub place_more : (file : ℕ) (text rest : List ℕ) (p : Place) → rest ≡ drop p.offset text → 0 < length rest → p ≡ place_behind file (take p.offset text)
+pub place_more : (file : ℕ) (text rest : List ℕ) (p : FilePlace) → rest ≡ drop p.offset text → 0 < length rest → p ≡ place_behind file (take p.offset text)
     → after p (slice_index_or rest 0 0) ≡ place_behind file (take (p.offset + 1) text)
 place_more file text [] p e some is = absurd (omega arith)
 place_more file text (b ∷ others) p e some is =
-    ap (λ (q : Place). after q b) is ∙ sym (behind_more file (take p.offset text) b) ∙ sym (ap (place_behind file) (ap (λ (n : ℕ). take n text) (one_more p.offset) ∙ take_more p.offset text others b e))
+    ap (λ (q : FilePlace). after q b) is ∙ sym (behind_more file (take p.offset text) b) ∙ sym (ap (place_behind file) (ap (λ (n : ℕ). take n text) (one_more p.offset) ∙ take_more p.offset text others b e))
 
-past_offset : (p : Place) (c : Bool) → (past p c).offset ≡ p.offset + 1
+past_offset : (p : FilePlace) (c : Bool) → (past p c).offset ≡ p.offset + 1
 past_offset p true = refl
 past_offset p false = refl
 
-pub after_offset : (p : Place) (b : ℕ) → (after p b).offset ≡ p.offset + 1
+pub after_offset : (p : FilePlace) (b : ℕ) → (after p b).offset ≡ p.offset + 1
 after_offset p b = past_offset p (b == 10)
 
-past_line : (p : Place) (c : Bool) → p.line ≤ p.offset + 1 → (past p c).line ≤ (past p c).offset + 1
+past_line : (p : FilePlace) (c : Bool) → p.line ≤ p.offset + 1 → (past p c).line ≤ (past p c).offset + 1
 past_line p true e = omega arith
 past_line p false e = omega arith
 
-pub after_line : (p : Place) (b : ℕ) → p.line ≤ p.offset + 1 → (after p b).line ≤ (after p b).offset + 1
+pub after_line : (p : FilePlace) (b : ℕ) → p.line ≤ p.offset + 1 → (after p b).line ≤ (after p b).offset + 1
 after_line p b e = past_line p (b == 10) e
 
-past_column : (p : Place) (c : Bool) → p.column ≤ p.offset + 1 → (past p c).column ≤ (past p c).offset + 1
+past_column : (p : FilePlace) (c : Bool) → p.column ≤ p.offset + 1 → (past p c).column ≤ (past p c).offset + 1
 past_column p true e = omega arith
 past_column p false e = omega arith
 
-pub after_column : (p : Place) (b : ℕ) → p.column ≤ p.offset + 1 → (after p b).column ≤ (after p b).offset + 1
+pub after_column : (p : FilePlace) (b : ℕ) → p.column ≤ p.offset + 1 → (after p b).column ≤ (after p b).offset + 1
 after_column p b e = past_column p (b == 10) e
 
 -- one more byte and its place
-pub of_more : (file : ℕ) (text bytes : List ℕ) (places : List Place) (b : ℕ) (p : Place) → AreOf file text bytes places → b ≡ slice_index_or text p.offset 0 → p ≡ place_behind file (take p.offset text)
+pub of_more : (file : ℕ) (text bytes : List ℕ) (places : List FilePlace) (b : ℕ) (p : FilePlace) → AreOf file text bytes places → b ≡ slice_index_or text p.offset 0 → p ≡ place_behind file (take p.offset text)
     → AreOf file text (bytes ++ b ∷ []) (places ++ p ∷ [])
 of_more file text bytes places b p of is there = record {
   same =
@@ -94,13 +94,13 @@ of_more file text bytes places b p of is there = record {
   each = λ k less. elim (cases_lt k (length bytes)) [
     | inl below ↦
         let below' : k < length places = subst (λ (n : ℕ). k < n) (sym of.same) below in
-        ap (λ (q : Place). slice_index_or text q.offset 0) (get_or-append places (p ∷ []) (place_behind 0 []) k below') ∙ of.each k below ∙ sym (get_or-append bytes (b ∷ []) 0 k below)
+        ap (λ (q : FilePlace). slice_index_or text q.offset 0) (get_or-append places (p ∷ []) (place_behind 0 []) k below') ∙ of.each k below ∙ sym (get_or-append bytes (b ∷ []) 0 k below)
     | inr above ↦
         let last : k ≡ length bytes =
         let a = length-append bytes (b ∷ []) in
         omega arith in
         ap (λ (n : ℕ). slice_index_or text (offset_in (places ++ p ∷ []) n) 0) (last ∙ sym of.same)
-        ∙ ap (λ (q : Place). slice_index_or text q.offset 0) (get_or-append_seam places p [] (place_behind 0 [])) ∙ sym is
+        ∙ ap (λ (q : FilePlace). slice_index_or text q.offset 0) (get_or-append_seam places p [] (place_behind 0 [])) ∙ sym is
         ∙ sym (ap (λ (n : ℕ). slice_index_or (bytes ++ b ∷ []) n 0) last ∙ get_or-append_seam bytes b [] 0)
   ];
   there = All-append (λ q. q ≡ place_behind file (take q.offset text)) places (p ∷ []) of.there (All-cons (λ q. q ≡ place_behind file (take q.offset text)) p [] there (All-nil (λ q. q ≡ place_behind file (take q.offset text))));

@@ -4,16 +4,16 @@ ghost use Rattle.std.specs.Prelude.{◌≤◌, length};
 
 use crate::condition::holds;
 use crate::macros::{is_known, replaced};
-use crate::refusal::{Refusal, Why, refused};
+use crate::refusal::{DirectiveRefusal, Why, refused};
 use crate::state::{Open, State};
 use crate::words::Word;
-use pml_macros::atom::{Atom, Place, Sort, same_sort};
+use pml_macros::atom::{Atom, AtomSort, FilePlace, same_sort};
 use std::alloc::{AllocError, Global};
 
 /// Whether the name that `#ifdef` asks for is known.
-fn known(state: &State, atoms: &[Atom], place: Place) -> Result<bool, Refusal> {
+fn known(state: &State, atoms: &[Atom], place: FilePlace) -> Result<bool, DirectiveRefusal> {
     match atoms {
-        [first, ..] if same_sort(first.sort, Sort::Name) => Ok(is_known(state, first.text)),
+        [first, ..] if same_sort(first.sort, AtomSort::Name) => Ok(is_known(state, first.text)),
         _ => Err(refused(Why::Form, place)),
     }
 }
@@ -25,7 +25,7 @@ fn truth(alloc: Global, state: &mut State, atom: Atom, is_known: bool) -> Result
         .book
         .number(alloc, if is_known { b"1" } else { b"0" })?;
     Ok(Atom {
-        sort: Sort::Number,
+        sort: AtomSort::Number,
         text,
         is_spaced: atom.is_spaced,
         is_painted: false,
@@ -37,14 +37,14 @@ fn truth(alloc: Global, state: &mut State, atom: Atom, is_known: bool) -> Result
 /// The name that `defined` asks for, and how many tokens it is.
 fn asked(atoms: &[Atom]) -> Option<(usize, usize)> {
     match atoms {
-        [open, name, close, ..] if same_sort(open.sort, Sort::OpenParen) => {
-            if same_sort(name.sort, Sort::Name) && same_sort(close.sort, Sort::CloseParen) {
+        [open, name, close, ..] if same_sort(open.sort, AtomSort::OpenParen) => {
+            if same_sort(name.sort, AtomSort::Name) && same_sort(close.sort, AtomSort::CloseParen) {
                 Some((name.text, 3))
             } else {
                 None
             }
         }
-        [name, ..] if same_sort(name.sort, Sort::Name) => Some((name.text, 1)),
+        [name, ..] if same_sort(name.sort, AtomSort::Name) => Some((name.text, 1)),
         _ => None,
     }
 }
@@ -65,8 +65,8 @@ fn without_defined(
     alloc: Global,
     state: &mut State,
     atoms: &[Atom],
-    place: Place,
-) -> Result<Vec<Atom>, Refusal> {
+    place: FilePlace,
+) -> Result<Vec<Atom>, DirectiveRefusal> {
     let mut out = Vec::with_capacity(alloc, atoms.len())?;
     let mut rest = atoms;
     while let [atom, others @ ..] = rest {
@@ -87,7 +87,12 @@ fn without_defined(
 }
 
 /// Whether the condition of an `#if` holds.
-fn is_met(alloc: Global, state: &mut State, atoms: &[Atom], place: Place) -> Result<bool, Refusal> {
+fn is_met(
+    alloc: Global,
+    state: &mut State,
+    atoms: &[Atom],
+    place: FilePlace,
+) -> Result<bool, DirectiveRefusal> {
     let plain = without_defined(alloc, state, atoms, place)?;
     let all = replaced(alloc, state, plain, place)?;
     match holds(&state.work.book, &all) {
@@ -97,7 +102,7 @@ fn is_met(alloc: Global, state: &mut State, atoms: &[Atom], place: Place) -> Res
 }
 
 /// `#if`, `#ifdef` or `#ifndef`, with what its condition is worth.
-fn begin(state: &mut State, is_met: bool, place: Place) -> Result<(), AllocError> {
+fn begin(state: &mut State, is_met: bool, place: FilePlace) -> Result<(), AllocError> {
     let live = state.is_live();
     state.open.push(Open {
         is_live: live && is_met,
@@ -109,7 +114,12 @@ fn begin(state: &mut State, is_met: bool, place: Place) -> Result<(), AllocError
 }
 
 /// `#else`, or `#elif` with what its condition is worth.
-fn turn_to(state: &mut State, is_met: bool, is_last: bool, place: Place) -> Result<(), Refusal> {
+fn turn_to(
+    state: &mut State,
+    is_met: bool,
+    is_last: bool,
+    place: FilePlace,
+) -> Result<(), DirectiveRefusal> {
     if state.open.len() <= state.floor {
         return Err(refused(Why::Closer, place));
     }
@@ -131,7 +141,7 @@ fn turn_to(state: &mut State, is_met: bool, is_last: bool, place: Place) -> Resu
 }
 
 /// `#endif`.
-fn end(state: &mut State, place: Place) -> Result<(), Refusal> {
+fn end(state: &mut State, place: FilePlace) -> Result<(), DirectiveRefusal> {
     if state.open.len() <= state.floor {
         return Err(refused(Why::Closer, place));
     }
@@ -153,8 +163,8 @@ pub fn conditional(
     state: &mut State,
     word: Word,
     atoms: &[Atom],
-    place: Place,
-) -> Result<bool, Refusal> {
+    place: FilePlace,
+) -> Result<bool, DirectiveRefusal> {
     let live = state.is_live();
     match word {
         Word::If => {

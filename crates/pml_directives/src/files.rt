@@ -4,7 +4,7 @@ use std::alloc::{AllocError, Global};
 
 /// A file that was found.
 #[derive(Drop)]
-pub struct Found {
+pub struct FoundFile {
     /// What it is called where a place in it is told.
     pub name: Vec<u8>,
     pub text: Vec<u8>,
@@ -19,7 +19,7 @@ pub trait Files {
         from: &[u8],
         name: &[u8],
         is_quoted: bool,
-    ) -> Result<Option<Found>, AllocError>;
+    ) -> Result<Option<FoundFile>, AllocError>;
 }
 
 /// No files.
@@ -33,7 +33,7 @@ impl Files for NoFiles {
         _from: &[u8],
         _name: &[u8],
         _is_quoted: bool,
-    ) -> Result<Option<Found>, AllocError> {
+    ) -> Result<Option<FoundFile>, AllocError> {
         Ok(None)
     }
 }

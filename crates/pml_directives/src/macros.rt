@@ -1,11 +1,11 @@
 //! The macros of a text: which are defined, and what comes of tokens that name them.
 
 use crate::definition::definition;
-use crate::refusal::{Refusal, Why, of_trouble, refused};
-use crate::state::{Note, Remark, State};
-use pml_macros::atom::{Atom, Place, Sort, same_sort};
+use crate::refusal::{DirectiveRefusal, Why, of_trouble, refused};
+use crate::state::{PlacedRemark, Remark, State};
+use pml_macros::atom::{Atom, AtomSort, FilePlace, same_sort};
 use pml_macros::calls::replaced_calls;
-use pml_macros::table::{Macro, Part, Role};
+use pml_macros::table::{BodyToken, Macro, Substitution};
 use std::alloc::{AllocError, Global};
 
 /// Whether a name is known without a `#define`.
@@ -41,7 +41,7 @@ fn spelled(
     alloc: Global,
     state: &mut State,
     atom: Atom,
-    sort: Sort,
+    sort: AtomSort,
     text: &[u8],
 ) -> Result<Atom, AllocError> {
     Ok(Atom {
@@ -60,11 +60,11 @@ fn told(alloc: Global, state: &mut State, atom: Atom) -> Result<Atom, AllocError
         b"__LINE__" => {
             let line = atom.call.line;
             let digits = format!(in alloc; "{line}")?;
-            spelled(alloc, state, atom, Sort::Number, digits.as_bytes())
+            spelled(alloc, state, atom, AtomSort::Number, digits.as_bytes())
         }
         b"__FILE__" => {
             let text = quoted(alloc, state.name(atom.call.file))?;
-            spelled(alloc, state, atom, Sort::Quoted, &text)
+            spelled(alloc, state, atom, AtomSort::Quoted, &text)
         }
         _ => Ok(atom),
     }
@@ -73,7 +73,7 @@ fn told(alloc: Global, state: &mut State, atom: Atom) -> Result<Atom, AllocError
 /// Writes what `__LINE__` and `__FILE__` stand for in their place.
 fn tell_places(alloc: Global, state: &mut State, atoms: &mut [Atom]) -> Result<(), AllocError> {
     for atom in atoms.iter_mut() {
-        if same_sort(atom.sort, Sort::Name) {
+        if same_sort(atom.sort, AtomSort::Name) {
             *atom = told(alloc, state, *atom)?;
         }
     }
@@ -83,7 +83,7 @@ fn tell_places(alloc: Global, state: &mut State, atoms: &mut [Atom]) -> Result<(
 /// Whether some token is the name of a macro.
 fn names_macro(state: &State, atoms: &[Atom]) -> bool {
     for atom in atoms {
-        if same_sort(atom.sort, Sort::Name) && state.table.knows(atom.text) {
+        if same_sort(atom.sort, AtomSort::Name) && state.table.knows(atom.text) {
             return true;
         }
     }
@@ -95,8 +95,8 @@ pub fn replaced(
     alloc: Global,
     state: &mut State,
     atoms: Vec<Atom>,
-    place: Place,
-) -> Result<Vec<Atom>, Refusal> {
+    place: FilePlace,
+) -> Result<Vec<Atom>, DirectiveRefusal> {
     let mut atoms = atoms;
     tell_places(alloc, state, &mut atoms)?;
     if !names_macro(state, &atoms) {
@@ -112,7 +112,7 @@ pub fn replaced(
 }
 
 /// Replaces the calls in what came since the last `#` line.
-pub fn flush(alloc: Global, state: &mut State) -> Result<(), Refusal> {
+pub fn flush(alloc: Global, state: &mut State) -> Result<(), DirectiveRefusal> {
     let run = std::mem::replace(&mut state.run, Vec::new(alloc));
     let [first, ..] = run.as_slice() else {
         return Ok(());
@@ -124,7 +124,7 @@ pub fn flush(alloc: Global, state: &mut State) -> Result<(), Refusal> {
 }
 
 /// Whether two tokens of bodies are the same.
-fn is_same_part(a: &Part, b: &Part) -> bool {
+fn is_same_part(a: &BodyToken, b: &BodyToken) -> bool {
     a.atom.text == b.atom.text && a.role == b.role && a.is_joined == b.is_joined
 }
 
@@ -154,8 +154,8 @@ pub fn define(
     alloc: Global,
     state: &mut State,
     atoms: &[Atom],
-    place: Place,
-) -> Result<(), Refusal> {
+    place: FilePlace,
+) -> Result<(), DirectiveRefusal> {
     match definition(alloc, atoms)? {
         None => Err(refused(Why::Form, place)),
         Some(made) => {
@@ -164,7 +164,7 @@ pub fn define(
             }
             if is_again(state, &made) {
                 let remark = Remark::Again(made.name);
-                state.notes.push(Note { remark, place })?;
+                state.notes.push(PlacedRemark { remark, place })?;
             }
             state.table.define(made)?;
             Ok(())
@@ -173,9 +173,13 @@ pub fn define(
 }
 
 /// `#undef`.
-pub fn undefine(state: &mut State, atoms: &[Atom], place: Place) -> Result<(), Refusal> {
+pub fn undefine(
+    state: &mut State,
+    atoms: &[Atom],
+    place: FilePlace,
+) -> Result<(), DirectiveRefusal> {
     match atoms {
-        [first, ..] if same_sort(first.sort, Sort::Name) => {
+        [first, ..] if same_sort(first.sort, AtomSort::Name) => {
             state.table.forget(first.text);
             Ok(())
         }

@@ -1,6 +1,6 @@
 //! Why a text is refused.
 
-use pml_macros::atom::Place;
+use pml_macros::atom::FilePlace;
 use pml_macros::trouble::Trouble;
 use std::alloc::{AllocError, AllocFailed};
 
@@ -33,18 +33,18 @@ pub enum Why {
 
 /// Why a text is refused, and where.
 #[derive(Clone, Copy, Debug)]
-pub struct Refusal {
+pub struct DirectiveRefusal {
     pub why: Why,
-    pub place: Place,
+    pub place: FilePlace,
 }
 
 /// A refusal at a place.
-pub fn refused(why: Why, place: Place) -> Refusal {
-    Refusal { why, place }
+pub fn refused(why: Why, place: FilePlace) -> DirectiveRefusal {
+    DirectiveRefusal { why, place }
 }
 
 /// What macros were in trouble with, as a refusal: of a call at the call.
-pub fn of_trouble(trouble: Trouble, place: Place) -> Refusal {
+pub fn of_trouble(trouble: Trouble, place: FilePlace) -> DirectiveRefusal {
     match trouble {
         Trouble::Memory => refused(Why::Memory, place),
         Trouble::Open(atom) => refused(Why::Call(trouble), atom.call),
@@ -56,21 +56,21 @@ pub fn of_trouble(trouble: Trouble, place: Place) -> Refusal {
 }
 
 /// Where memory is refused no place is told.
-const NOWHERE: Place = Place {
+const NOWHERE: FilePlace = FilePlace {
     file: 0,
     offset: 0,
     line: 1,
     column: 1,
 };
 
-impl From<AllocError> for Refusal {
-    fn from(_: AllocError) -> Refusal {
+impl From<AllocError> for DirectiveRefusal {
+    fn from(_: AllocError) -> DirectiveRefusal {
         refused(Why::Memory, NOWHERE)
     }
 }
 
-impl<T: Drop> From<AllocFailed<T>> for Refusal {
-    fn from(_: AllocFailed<T>) -> Refusal {
+impl<T: Drop> From<AllocFailed<T>> for DirectiveRefusal {
+    fn from(_: AllocFailed<T>) -> DirectiveRefusal {
         refused(Why::Memory, NOWHERE)
     }
 }

@@ -3,15 +3,15 @@
 ghost use Rattle.std.specs.Prelude.{◌≡◌, ◌<◌, ◌≤◌, ◌+◌, ◌^◌, [], length, IfOk};
 ghost use Rattle.pml_directives.specs.Places.{AreOf, place_behind, after};
 
-use pml_macros::atom::Place;
+use pml_macros::atom::FilePlace;
 use std::alloc::{AllocError, Global};
 
 /// A text without its joints, for each byte of it the place in the whole text, and the place behind that.
 #[derive(Drop)]
 pub struct Joined {
     pub bytes: Vec<u8>,
-    pub places: Vec<Place>,
-    pub end: Place,
+    pub places: Vec<FilePlace>,
+    pub end: FilePlace,
 }
 
 /// How many bytes the joint at the front of a text has, or 0.
@@ -24,10 +24,10 @@ fn joint(text: &[u8]) -> usize {
 }
 
 /// The place before the first byte of a file.
-fn start(file: u32) -> Place
+fn start(file: u32) -> FilePlace
     ensures { result ≡ place_behind file [] }
 {
-    Place {
+    FilePlace {
         file,
         offset: 0,
         line: 1,
@@ -36,7 +36,7 @@ fn start(file: u32) -> Place
 }
 
 /// The place behind a byte.
-fn behind(place: Place, byte: u8) -> Place
+fn behind(place: FilePlace, byte: u8) -> FilePlace
     requires short { place.offset < 2 ^ 31 }
     requires low { place.line ≤ place.offset + 1 }
     requires narrow { place.column ≤ place.offset + 1 }
@@ -44,14 +44,14 @@ fn behind(place: Place, byte: u8) -> Place
 {
     let offset = place.offset + 1;
     if byte == b'\n' {
-        Place {
+        FilePlace {
             file: place.file,
             offset,
             line: place.line + 1,
             column: 1,
         }
     } else {
-        Place {
+        FilePlace {
             file: place.file,
             offset,
             line: place.line,

@@ -1,8 +1,8 @@
 //! What is known while a text is preprocessed.
 
-use pml_macros::atom::{Atom, Place};
+use pml_macros::atom::{Atom, FilePlace};
 use pml_macros::book::owned;
-use pml_macros::table::Table;
+use pml_macros::table::MacroTable;
 use pml_macros::work::Work;
 use std::alloc::{AllocError, Global};
 
@@ -22,7 +22,7 @@ pub struct Open {
     /// Its `#else` was there.
     pub is_last: bool,
     /// Where its `#if` stands.
-    pub place: Place,
+    pub place: FilePlace,
 }
 
 /// A `#line`: from this line of its file on the lines count from that number.
@@ -40,7 +40,7 @@ impl Shift {
 
     /// A token that stands for itself, with the number of its line.
     pub fn shifted(self, atom: Atom) -> Atom {
-        let place = Place {
+        let place = FilePlace {
             file: atom.place.file,
             offset: atom.place.offset,
             line: self.line(atom.place.line),
@@ -68,23 +68,23 @@ pub enum Remark {
 
 /// A remark, and where it belongs.
 #[derive(Clone, Copy, Debug)]
-pub struct Note {
+pub struct PlacedRemark {
     pub remark: Remark,
-    pub place: Place,
+    pub place: FilePlace,
 }
 
 /// All that is known on the way.
 #[derive(Drop)]
 pub struct State {
     pub work: Work,
-    pub table: Table,
+    pub table: MacroTable,
     /// What has come out.
     pub out: Vec<Atom>,
     /// What the files are called, by their numbers.
     pub names: Vec<Vec<u8>>,
     /// The line of the model's own file on which each is included.
     pub homes: Vec<u32>,
-    pub notes: Vec<Note>,
+    pub notes: Vec<PlacedRemark>,
     /// The names of macros that were given before the text.
     pub given: Vec<usize>,
     /// What came since the last `#` line.
@@ -111,7 +111,7 @@ impl State {
         homes.push(1)?;
         Ok(State {
             work: Work::new(alloc, MOST_TOKENS),
-            table: Table::new(alloc),
+            table: MacroTable::new(alloc),
             out: Vec::new(alloc),
             names,
             homes,
@@ -145,7 +145,7 @@ impl State {
     }
 
     /// On which line of the model's own file what stands at a place is included, or stands.
-    pub fn home(&self, place: Place) -> u32 {
+    pub fn home(&self, place: FilePlace) -> u32 {
         let number = place.file as usize;
         if number > 0 && number < self.homes.len() {
             self.homes[number]

@@ -1,13 +1,13 @@
 //! What comes of a text with its `#` lines.
 
 use crate::branches::{behind, conditional};
-use crate::files::{Files, Found};
-use crate::lines::{Line, lines};
+use crate::files::{Files, FoundFile};
+use crate::lines::{AtomLine, lines};
 use crate::macros::{define, flush, replaced, undefine};
-use crate::refusal::{Refusal, Why, refused};
-use crate::state::{Note, Remark, Shift, State};
+use crate::refusal::{DirectiveRefusal, Why, refused};
+use crate::state::{PlacedRemark, Remark, Shift, State};
 use crate::words::{Word, word_of};
-use pml_macros::atom::{Atom, Place, Sort, same_sort};
+use pml_macros::atom::{Atom, AtomSort, FilePlace, same_sort};
 use pml_macros::book::owned;
 use std::alloc::{AllocError, Global};
 
@@ -65,8 +65,8 @@ fn wanted_by(
     alloc: Global,
     state: &mut State,
     atoms: &[Atom],
-    place: Place,
-) -> Result<Target, Refusal> {
+    place: FilePlace,
+) -> Result<Target, DirectiveRefusal> {
     if let Some(wanted) = wanted(alloc, state, atoms)? {
         return Ok(wanted);
     }
@@ -95,8 +95,8 @@ fn included<F: Files>(
     state: &mut State,
     files: &mut F,
     atoms: &[Atom],
-    place: Place,
-) -> Result<Found, Refusal> {
+    place: FilePlace,
+) -> Result<FoundFile, DirectiveRefusal> {
     let Target { name, is_quoted } = wanted_by(alloc, state, atoms, place)?;
     if state.names.len() >= MOST_FILES {
         return Err(refused(Why::Includes, place));
@@ -108,7 +108,7 @@ fn included<F: Files>(
 }
 
 /// `#pragma`: of all of them `once` alone is known.
-fn pragma(state: &mut State, atoms: &[Atom], place: Place) -> Result<(), AllocError> {
+fn pragma(state: &mut State, atoms: &[Atom], place: FilePlace) -> Result<(), AllocError> {
     if let [first, ..] = atoms {
         if matches!(state.text(first), b"once") {
             state.once.push(place.file as usize)?;
@@ -130,7 +130,11 @@ fn line_number(text: &[u8]) -> Option<u32> {
 }
 
 /// `#line` or a mark: the line behind it has this number.
-fn count_lines(state: &mut State, atoms: &[Atom], place: Place) -> Result<(), Refusal> {
+fn count_lines(
+    state: &mut State,
+    atoms: &[Atom],
+    place: FilePlace,
+) -> Result<(), DirectiveRefusal> {
     let number = match atoms {
         [first, ..] => line_number(state.text(first)),
         [] => None,
@@ -164,8 +168,8 @@ fn plain(
     state: &mut State,
     word: Word,
     atoms: &[Atom],
-    place: Place,
-) -> Result<(), Refusal> {
+    place: FilePlace,
+) -> Result<(), DirectiveRefusal> {
     match word {
         Word::Define => define(alloc, state, atoms, place),
         Word::Undef => undefine(state, atoms, place),
@@ -174,7 +178,7 @@ fn plain(
         Word::Error => Err(refused(Why::Error, place)),
         Word::Warning => {
             let remark = Remark::Warning;
-            state.notes.push(Note { remark, place })?;
+            state.notes.push(PlacedRemark { remark, place })?;
             Ok(())
         }
         Word::Unknown => Err(refused(Why::Word, place)),
@@ -194,8 +198,8 @@ fn directive(
     alloc: Global,
     state: &mut State,
     atoms: &[Atom],
-    place: Place,
-) -> Result<Further, Refusal> {
+    place: FilePlace,
+) -> Result<Further, DirectiveRefusal> {
     flush(alloc, state)?;
     let word = word_of(state, atoms);
     let operands = behind(atoms, 1);
@@ -213,9 +217,9 @@ fn directive(
 }
 
 /// Does a line.
-fn line(alloc: Global, state: &mut State, line: &Line) -> Result<Further, Refusal> {
+fn line(alloc: Global, state: &mut State, line: &AtomLine) -> Result<Further, DirectiveRefusal> {
     match line.atoms.as_slice() {
-        [first, others @ ..] if same_sort(first.sort, Sort::Hash) => {
+        [first, others @ ..] if same_sort(first.sort, AtomSort::Hash) => {
             directive(alloc, state, others, first.place)
         }
         all => {
@@ -228,7 +232,7 @@ fn line(alloc: Global, state: &mut State, line: &Line) -> Result<Further, Refusa
 }
 
 /// Where an `#include` stands, of a line that is one.
-fn place_of(line: &Line) -> Place {
+fn place_of(line: &AtomLine) -> FilePlace {
     match line.atoms.as_slice() {
         [first, ..] => first.place,
         [] => line.end,
@@ -236,7 +240,7 @@ fn place_of(line: &Line) -> Place {
 }
 
 /// A condition that a file leaves open is refused.
-fn closed(state: &State, opened: usize) -> Result<(), Refusal> {
+fn closed(state: &State, opened: usize) -> Result<(), DirectiveRefusal> {
     if opened < state.open.len() {
         return Err(refused(Why::Opener, state.open[opened].place));
     }
@@ -251,7 +255,7 @@ fn file<F: Files>(
     number: u32,
     text: &[u8],
     room: usize,
-) -> Result<(), Refusal> {
+) -> Result<(), DirectiveRefusal> {
     let floor = state.floor;
     let opened = state.open.len();
     let shift = state.shift;
@@ -286,11 +290,11 @@ fn lines_of(
     state: &mut State,
     number: u32,
     text: &[u8],
-) -> Result<Vec<Line>, Refusal> {
+) -> Result<Vec<AtomLine>, DirectiveRefusal> {
     if text.len() > MOST_FILE_BYTES || text.len() > state.bytes_left {
         return Err(refused(
             Why::Long,
-            Place {
+            FilePlace {
                 file: number,
                 offset: 0,
                 line: 1,
@@ -315,7 +319,7 @@ pub fn preprocess<F: Files>(
     state: &mut State,
     before: &[u8],
     text: &[u8],
-) -> Result<(), Refusal> {
+) -> Result<(), DirectiveRefusal> {
     file(alloc, state, files, 1, before, 0)?;
     note_given(state)?;
     file(alloc, state, files, 0, text, MOST_INCLUDES)

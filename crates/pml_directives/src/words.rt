@@ -1,7 +1,7 @@
 //! The words that a `#` line begins with.
 
 use crate::state::State;
-use pml_macros::atom::{Atom, Sort};
+use pml_macros::atom::{Atom, AtomSort};
 
 /// What a `#` line asks for.
 #[derive(Clone, Copy, Debug, PartialEq, Eq)]
@@ -59,11 +59,11 @@ pub fn word_of(state: &State, atoms: &[Atom]) -> Word {
     match atoms {
         [] => Word::Passed,
         [first, ..] => match first.sort {
-            Sort::Name => match word_of_condition(state.text(first)) {
+            AtomSort::Name => match word_of_condition(state.text(first)) {
                 Some(word) => word,
                 None => word_by(state.text(first)),
             },
-            Sort::Number => Word::Mark,
+            AtomSort::Number => Word::Mark,
             _ => Word::Unknown,
         },
     }

@@ -1,26 +1,26 @@
 -- What comes of texts, computed: the examples of C11 6.10.3.5 and of 6.10.3.4.
 use Rattle.std.proofs.Common.{◌≡◌, ℕ, zero, suc, false, List, [], ◌∷◌, map, Option, None, Some, refl, option_map}
-use Rattle.pml_macros.specs.declared.atom.Sort.{Sort}
-use Rattle.pml_macros.specs.declared.atom.Sort.TheVariants as sort
-use Rattle.pml_macros.specs.declared.atom.Place.{Place}
+use Rattle.pml_macros.specs.declared.atom.AtomSort.{AtomSort}
+use Rattle.pml_macros.specs.declared.atom.AtomSort.TheVariants as sort
+use Rattle.pml_macros.specs.declared.atom.FilePlace.{FilePlace}
 use Rattle.pml_macros.specs.declared.atom.Atom.{Atom}
-use Rattle.pml_macros.specs.declared.table.Part.{Part}
-use Rattle.pml_macros.specs.declared.table.Role.TheVariants.{Itself, Expanded}
+use Rattle.pml_macros.specs.declared.table.BodyToken.{BodyToken}
+use Rattle.pml_macros.specs.declared.table.Substitution.TheVariants.{Itself, Expanded}
 use Rattle.pml_macros.specs.Calls.{Known, standing, tokens}
 use Rattle.pml_macros.specs.Run.{run}
 
-abbrev here : Place
+abbrev here : FilePlace
 here = record { file = 0; offset = 0; line = 1; column = 1 }
 
-abbrev token : Sort → ℕ → Atom
+abbrev token : AtomSort → ℕ → Atom
 token s n = record { sort = s; text = n; is_spaced = false; is_painted = false; place = here; call = here }
 
 -- a token of a body
-abbrev keeps : Atom → Part
+abbrev keeps : Atom → BodyToken
 keeps a = record { atom = a; role = Itself; is_joined = false }
 
 -- a parameter in a body
-abbrev gives : ℕ → Part
+abbrev gives : ℕ → BodyToken
 gives k = record { atom = token sort.Name 0; role = Expanded k; is_joined = false }
 
 abbrev texts : Option (List Atom) → Option (List ℕ)

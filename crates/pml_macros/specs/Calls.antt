@@ -4,25 +4,25 @@ use Rattle.std.specs.List.{list_any, flat_map}
 use Rattle.std.specs.Ordering.{nat_cmp}
 use Rattle.std.specs.BTreeMap.{get}
 use denote.Enum.Bare.{sameb}
-use Rattle.pml_macros.specs.contracts.atom.Sort.{the_type}
-use Rattle.pml_macros.specs.declared.atom.Sort.{Sort}
-use Rattle.pml_macros.specs.declared.atom.Sort.TheVariants as sort
-use Rattle.pml_macros.specs.declared.atom.Place.{Place}
+use Rattle.pml_macros.specs.contracts.atom.AtomSort.{the_type}
+use Rattle.pml_macros.specs.declared.atom.AtomSort.{AtomSort}
+use Rattle.pml_macros.specs.declared.atom.AtomSort.TheVariants as sort
+use Rattle.pml_macros.specs.declared.atom.FilePlace.{FilePlace}
 use Rattle.pml_macros.specs.declared.atom.Atom.{Atom}
-use Rattle.pml_macros.specs.declared.calls.Item.{Item}
+use Rattle.pml_macros.specs.declared.calls.PendingItem.{PendingItem}
 use Rattle.pml_macros.specs.declared.calls.Pending.{Pending}
-use Rattle.pml_macros.specs.declared.calls.Item.TheVariants.{Token, End}
-use Rattle.pml_macros.specs.declared.calls.Standing.{Standing}
-use Rattle.pml_macros.specs.declared.calls.Standing.TheVariants.{Stays, Painted, Object, Call}
-use Rattle.pml_macros.specs.declared.table.Role.{Role}
-use Rattle.pml_macros.specs.declared.table.Role.TheVariants.{Itself, Expanded, Raw, Shown}
-use Rattle.pml_macros.specs.declared.table.Part.{Part}
+use Rattle.pml_macros.specs.declared.calls.PendingItem.TheVariants.{Token, End}
+use Rattle.pml_macros.specs.declared.calls.AtomStanding.{AtomStanding}
+use Rattle.pml_macros.specs.declared.calls.AtomStanding.TheVariants.{Stays, Painted, Object, Call}
+use Rattle.pml_macros.specs.declared.table.Substitution.{Substitution}
+use Rattle.pml_macros.specs.declared.table.Substitution.TheVariants.{Itself, Expanded, Raw, Shown}
+use Rattle.pml_macros.specs.declared.table.BodyToken.{BodyToken}
 use Rattle.pml_macros.specs.declared.table.Macro.{Macro}
-use Rattle.pml_macros.specs.declared.table.Table.{Table}
+use Rattle.pml_macros.specs.declared.table.MacroTable.{MacroTable}
 use Rattle.std.specs.Global.{Vec}
 
 -- two sorts are the same
-abbrev pub same_sort : Sort → Sort → Bool
+abbrev pub same_sort : AtomSort → AtomSort → Bool
 same_sort = sameb the_type
 
 -- a token that names a macro which it stands within
@@ -30,7 +30,7 @@ abbrev pub painted : Atom → Atom
 painted a = record a { is_painted = true }
 
 -- a token as it comes out of a call at this place
-abbrev pub called : Place → Atom → Atom
+abbrev pub called : FilePlace → Atom → Atom
 called p a = record a { call = p }
 
 -- a token with blanks before it or none
@@ -41,7 +41,7 @@ spaced b a = record a { is_spaced = b }
 pub record Rule : Type 0 where
   pub name : ℕ
   pub parameters : Option ℕ
-  pub body : List Part
+  pub body : List BodyToken
 
 -- the one that the code keeps
 abbrev pub rule_of : Macro → Rule
@@ -52,7 +52,7 @@ abbrev pub Known : Type 0
 Known = ℕ → Option Rule
 
 -- those of a table
-abbrev pub known : Table → Known
+abbrev pub known : MacroTable → Known
 known t n = option_map rule_of (option_and_then (λ p. slice_get t.macros.items p) (get nat_cmp t.places n))
 
 -- a name is one of these
@@ -64,7 +64,7 @@ abbrev pub lists : List (Vec Atom) → List (List Atom)
 lists vs = map (λ v. v.items) vs
 
 -- what is to be read of tokens
-abbrev pub tokens : List Atom → List Item
+abbrev pub tokens : List Atom → List PendingItem
 tokens xs = map Token xs
 
 -- without the innermost
@@ -72,25 +72,25 @@ abbrev pub outer : List ℕ → List ℕ
 outer ns = take (length ns - 1) ns
 
 -- the next token is a `(`
-abbrev pub opens_next : List Item → Bool
+abbrev pub opens_next : List PendingItem → Bool
 opens_next [] = false
 opens_next (End ∷ ts) = opens_next ts
 opens_next (Token a ∷ ts) = same_sort a.sort sort.OpenParen
 
 -- what a macro is called as
-abbrev pub called_as : Option ℕ → Bool → Standing
+abbrev pub called_as : Option ℕ → Bool → AtomStanding
 called_as None opens = Object
 called_as (Some n) true = Call n
 called_as (Some n) false = Stays
 
 -- what the name of a macro is at its place
-abbrev pub as_macro : Option Rule → Bool → Bool → Standing
+abbrev pub as_macro : Option Rule → Bool → Bool → AtomStanding
 as_macro None within opens = Stays
 as_macro (Some m) true opens = Painted
 as_macro (Some m) false opens = called_as m.parameters opens
 
 -- what a token is at its place, within these macros and before this
-unfoldable pub standing : Known → List ℕ → Atom → List Item → Standing
+unfoldable pub standing : Known → List ℕ → Atom → List PendingItem → AtomStanding
 standing ms active a ts =
     if same_sort a.sort sort.Name && not a.is_painted then as_macro (ms a.text) (is_among a.text active) (opens_next ts) else Stays
 
@@ -100,7 +100,7 @@ standing ms active a ts =
 pub record Taken : Type 0 where
   pub arguments : List (List Atom)
   pub active : List ℕ
-  pub items : List Item
+  pub items : List PendingItem
 
 -- a token of an argument: one that names a macro which it stands within is never replaced
 abbrev pub seen : List ℕ → Atom → Atom
@@ -111,7 +111,7 @@ abbrev pub Taking : Type 0
 Taking = ℕ → List (List Atom) → List Atom → List ℕ → Option Taken
 
 -- a token between the parentheses of a call, of which so many are open
-abbrev pub take_turn : Atom → List Item → Taking → Taking
+abbrev pub take_turn : Atom → List PendingItem → Taking → Taking
 take_turn a ts rest n args cur active =
     if same_sort a.sort sort.OpenParen then rest (n + 1) args (if nat_eq n 0 then cur else cur ++ a ∷ []) active
     else (if same_sort a.sort sort.CloseParen
@@ -119,7 +119,7 @@ take_turn a ts rest n args cur active =
     else (if same_sort a.sort sort.Comma && nat_le n 1 then rest n (args ++ cur ∷ []) [] active else rest n args (cur ++ a ∷ []) active))
 
 -- what stands from a `(` to its `)`, cut at the commas that stand in no inner parentheses; the ends of macros on the way are passed
-abbrev pub taking : List Item → Taking
+abbrev pub taking : List PendingItem → Taking
 taking [] n args cur active = None
 taking (End ∷ ts) n args cur active = taking ts n args cur (outer active)
 taking (Token a ∷ ts) n args cur active = take_turn (seen active a) ts (taking ts) n args cur active
@@ -143,27 +143,27 @@ fronted b [] = []
 fronted b (a ∷ xs) = spaced b a ∷ xs
 
 -- what stands in place of a token of the body
-abbrev pub by_role : List (List Atom) → Place → Part → Role → List Atom
+abbrev pub by_role : List (List Atom) → FilePlace → BodyToken → Substitution → List Atom
 by_role outs p part Itself = called p part.atom ∷ []
 by_role outs p part (Expanded k) = fronted part.atom.is_spaced (argument outs k)
 by_role outs p part (Raw k) = []
 by_role outs p part (Shown k) = []
 
-abbrev pub instead : List (List Atom) → Place → Part → List Atom
+abbrev pub instead : List (List Atom) → FilePlace → BodyToken → List Atom
 instead outs p part = by_role outs p part part.role
 
 -- the body with what came of the arguments in place of the parameters
-abbrev pub body_of : Rule → List (List Atom) → Place → List Atom
+abbrev pub body_of : Rule → List (List Atom) → FilePlace → List Atom
 body_of m outs p = flat_map (instead outs p) m.body
 
 -- what comes of this argument is asked for
-abbrev pub asks : ℕ → Role → Bool
+abbrev pub asks : ℕ → Substitution → Bool
 asks k (Expanded j) = nat_eq j k
 asks k Itself = false
 asks k (Raw j) = false
 asks k (Shown j) = false
 
-abbrev pub is_wanted_in : ℕ → List Part → Bool
+abbrev pub is_wanted_in : ℕ → List BodyToken → Bool
 is_wanted_in k [] = false
 is_wanted_in k (p ∷ ps) = if asks k p.role then true else is_wanted_in k ps
 
@@ -171,13 +171,13 @@ abbrev pub is_wanted : Rule → ℕ → Bool
 is_wanted m k = is_wanted_in k m.body
 
 -- no `#` and no `##`
-abbrev pub IsPlainRole : Role → Type 0
+abbrev pub IsPlainRole : Substitution → Type 0
 IsPlainRole Itself = Unit {0}
 IsPlainRole (Expanded k) = Unit {0}
 IsPlainRole (Raw k) = ⊥
 IsPlainRole (Shown k) = ⊥
 
-pub record IsPlainPart (p : Part) : Type 0 where
+pub record IsPlainPart (p : BodyToken) : Type 0 where
   pub apart : p.is_joined ≡ false
   pub role : IsPlainRole p.role
 
@@ -191,16 +191,16 @@ ArePlain ms = (n : ℕ) (m : Rule) → ms n ≡ Some m → IsPlain m
 -- ---- the rules
 
 -- Of what is to be read within these macros comes the list of tokens.
-pub data Comes (ms : Known) : List ℕ → List Item → List Atom → Type 0 where
+pub data Comes (ms : Known) : List ℕ → List PendingItem → List Atom → Type 0 where
   nothing_left : {active : List ℕ} → Comes ms active [] []
-  ends : {active : List ℕ} {ts : List Item} {us : List Atom} → Comes ms (outer active) ts us → Comes ms active (End ∷ ts) us
-  stays : {active : List ℕ} {a : Atom} {ts : List Item} {us : List Atom} → standing ms active a ts ≡ Stays → Comes ms active ts us
+  ends : {active : List ℕ} {ts : List PendingItem} {us : List Atom} → Comes ms (outer active) ts us → Comes ms active (End ∷ ts) us
+  stays : {active : List ℕ} {a : Atom} {ts : List PendingItem} {us : List Atom} → standing ms active a ts ≡ Stays → Comes ms active ts us
       → Comes ms active (Token a ∷ ts) (a ∷ us)
-  is_painted : {active : List ℕ} {a : Atom} {ts : List Item} {us : List Atom} → standing ms active a ts ≡ Painted → Comes ms active ts us
+  is_painted : {active : List ℕ} {a : Atom} {ts : List PendingItem} {us : List Atom} → standing ms active a ts ≡ Painted → Comes ms active ts us
       → Comes ms active (Token a ∷ ts) (painted a ∷ us)
-  is_replaced : {active : List ℕ} {a : Atom} {ts : List Item} {us : List Atom} {m : Rule} → standing ms active a ts ≡ Object → ms a.text ≡ Some m
+  is_replaced : {active : List ℕ} {a : Atom} {ts : List PendingItem} {us : List Atom} {m : Rule} → standing ms active a ts ≡ Object → ms a.text ≡ Some m
       → Comes ms (active ++ m.name ∷ []) (tokens (body_of m [] a.call) ++ End ∷ ts) us → Comes ms active (Token a ∷ ts) us
-  is_called : {active : List ℕ} {a : Atom} {ts : List Item} {us : List Atom} {m : Rule} {n : ℕ} {x : Taken} (outs : List (List Atom))
+  is_called : {active : List ℕ} {a : Atom} {ts : List PendingItem} {us : List Atom} {m : Rule} {n : ℕ} {x : Taken} (outs : List (List Atom))
       → standing ms active a ts ≡ Call n → ms a.text ≡ Some m → taking ts 0 [] [] active ≡ Some x → fits n x.arguments ≡ true
       → ((k : ℕ) → is_wanted m k ≡ true → Comes ms x.active (tokens (argument x.arguments k)) (argument outs k))
       → Comes ms (x.active ++ m.name ∷ []) (tokens (body_of m outs a.call) ++ End ∷ x.items) us → Comes ms active (Token a ∷ ts) us
@@ -208,56 +208,56 @@ pub data Comes (ms : Known) : List ℕ → List Item → List Atom → Type 0 wh
 -- ---- what the code does, step by step. No clause of a public function cites this.
 
 -- what comes of the rest, behind what is out, is what comes of the whole
-abbrev pub Gives : Known → List ℕ → List Item → List Atom → List ℕ → List Item → Type 0
+abbrev pub Gives : Known → List ℕ → List PendingItem → List Atom → List ℕ → List PendingItem → Type 0
 Gives ms whole_active whole out active ts = (us : List Atom) → Comes ms active ts us → Comes ms whole_active whole (out ++ us)
 
 -- whatever the whole is, from what is out and what is to be read to what is out and to be read then
-abbrev pub Passes : Known → List Atom → List ℕ → List Item → List Atom → List ℕ → List Item → Type 0
-Passes ms out active ts out' active' ts' = (whole_active : List ℕ) (whole : List Item) → Gives ms whole_active whole out active ts → Gives ms whole_active whole out' active' ts'
+abbrev pub Passes : Known → List Atom → List ℕ → List PendingItem → List Atom → List ℕ → List PendingItem → Type 0
+Passes ms out active ts out' active' ts' = (whole_active : List ℕ) (whole : List PendingItem) → Gives ms whole_active whole out active ts → Gives ms whole_active whole out' active' ts'
 
 -- the token is a call, which takes these arguments
-pub record IsCall (ms : Known) (active : List ℕ) (a : Atom) (ts : List Item) (x : Taken) : Type 0 where
+pub record IsCall (ms : Known) (active : List ℕ) (a : Atom) (ts : List PendingItem) (x : Taken) : Type 0 where
   pub wanted : ℕ
   pub stands : standing ms active a ts ≡ Call wanted
   pub takes : taking ts 0 [] [] active ≡ Some x
   pub right : fits wanted x.arguments ≡ true
 
 -- the body of a macro stands in front of what was to be read
-pub record HasEntered (m : Rule) (outs : List (List Atom)) (a : Atom) (active : List ℕ) (ts : List Item) (active' : List ℕ) (ts' : List Item) : Type 0 where
+pub record HasEntered (m : Rule) (outs : List (List Atom)) (a : Atom) (active : List ℕ) (ts : List PendingItem) (active' : List ℕ) (ts' : List PendingItem) : Type 0 where
   pub within : active' ≡ active ++ m.name ∷ []
   pub ahead : ts' ≡ tokens (body_of m outs a.call) ++ End ∷ ts
 
 -- where nothing was closed nothing is taken, else these arguments
-abbrev pub Takes : List ℕ → List Item → Option (Vec (Vec Atom)) → List ℕ → List Item → Type 0
+abbrev pub Takes : List ℕ → List PendingItem → Option (Vec (Vec Atom)) → List ℕ → List PendingItem → Type 0
 Takes active ts None active' ts' = taking ts 0 [] [] active ≡ None
 Takes active ts (Some v) active' ts' = taking ts 0 [] [] active ≡ Some (record { arguments = lists v.items; active = active'; items = ts' })
 
 -- as many as are wanted are taken
-pub record TakesRight (wanted : ℕ) (active : List ℕ) (ts : List Item) (v : Vec (Vec Atom)) (active' : List ℕ) (ts' : List Item) : Type 0 where
+pub record TakesRight (wanted : ℕ) (active : List ℕ) (ts : List PendingItem) (v : Vec (Vec Atom)) (active' : List ℕ) (ts' : List PendingItem) : Type 0 where
   pub takes : taking ts 0 [] [] active ≡ Some (record { arguments = lists v.items; active = active'; items = ts' })
   pub right : fits wanted (lists v.items) ≡ true
 
 -- how much may still be read: what is there, and what may be put in front of it
-abbrev pub to_read : ℕ → List Item → ℕ
+abbrev pub to_read : ℕ → List PendingItem → ℕ
 to_read left ts = left + length ts
 
 -- the end of what came of a macro
-abbrev pub stop : Item
+abbrev pub stop : PendingItem
 stop = End
 
 -- what comes of a token and what is behind it is what comes of all that was to be read
-abbrev pub Follows : Known → Atom → List ℕ → List Item → List ℕ → List Item → Type 0
+abbrev pub Follows : Known → Atom → List ℕ → List PendingItem → List ℕ → List PendingItem → Type 0
 Follows ms a active ts active' ts' = (us : List Atom) → Comes ms active' (Token a ∷ ts') us → Comes ms active ts us
 
 -- a token is read, or is a call whose arguments are taken
-abbrev pub Turns : Known → Atom → List Atom → List ℕ → List Item → List Atom → List ℕ → List Item → Option (Vec (Vec Atom)) → Type 0
+abbrev pub Turns : Known → Atom → List Atom → List ℕ → List PendingItem → List Atom → List ℕ → List PendingItem → Option (Vec (Vec Atom)) → Type 0
 Turns ms a out active ts out' active' ts' None = Passes ms out active (Token a ∷ ts) out' active' ts'
 Turns ms a out active ts out' active' ts' (Some v) = IsCall ms active a ts (record { arguments = lists v.items; active = active'; items = ts' }) × (out' ≡ out)
 
 -- ---- the same of what the code keeps
 
 -- what is still to be read, the next of it first
-abbrev pub ahead : Pending → List Item
+abbrev pub ahead : Pending → List PendingItem
 ahead p = reverse p.items.items
 
 -- from what was to be read, arguments are taken, or nothing is

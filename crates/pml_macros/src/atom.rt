@@ -5,7 +5,7 @@ ghost use Rattle.pml_macros.specs.Calls as rules;
 
 /// What a token is to the preprocessor.
 #[derive(Clone, Copy, Debug, PartialEq, Eq)]
-pub enum Sort {
+pub enum AtomSort {
     /// A letter or `_`, then letters, digits and `_`.
     Name,
     Number,
@@ -24,7 +24,7 @@ pub enum Sort {
 }
 
 /// Whether two sorts are the same.
-pub fn same_sort(a: Sort, b: Sort) -> bool
+pub fn same_sort(a: AtomSort, b: AtomSort) -> bool
     ensures { result ≡ rules.same_sort a b }
 {
     a == b
@@ -32,7 +32,7 @@ pub fn same_sort(a: Sort, b: Sort) -> bool
 
 /// Where something stands: the number of its file, how many bytes of it stand before, and its line and column, from 1 on.
 #[derive(Clone, Copy, Debug, PartialEq, Eq)]
-pub struct Place {
+pub struct FilePlace {
     pub file: u32,
     pub offset: u32,
     pub line: u32,
@@ -43,14 +43,14 @@ pub struct Place {
 /// the outermost call that it came out of.
 #[derive(Clone, Copy, Debug)]
 pub struct Atom {
-    pub sort: Sort,
+    pub sort: AtomSort,
     pub text: usize,
     /// Blanks stand before it.
     pub is_spaced: bool,
     /// It names a macro that it stood within, and is never replaced.
     pub is_painted: bool,
-    pub place: Place,
-    pub call: Place,
+    pub place: FilePlace,
+    pub call: FilePlace,
 }
 
 impl Atom {
@@ -69,7 +69,7 @@ impl Atom {
     }
 
     /// The same, as it comes out of a call.
-    pub fn called(self, call: Place) -> Atom
+    pub fn called(self, call: FilePlace) -> Atom
         ensures { result ≡ rules.called call self }
     {
         Atom {

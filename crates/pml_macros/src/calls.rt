@@ -5,9 +5,9 @@ ghost use Rattle.pml_macros.specs.Calls as rules;
 ghost use Rattle.pml_macros.specs.Laws.{KnowsNone};
 ghost use Rattle.pml_macros.specs.Calls.{Comes, Known, Rule, ArePlain, HasEntered, known};
 
-use crate::atom::{Atom, Sort, same_sort};
-use crate::replacing::{Given, argument, is_wanted, replaced};
-use crate::table::{Macro, Table};
+use crate::atom::{Atom, AtomSort, same_sort};
+use crate::replacing::{CallArguments, argument, is_wanted, replaced};
+use crate::table::{Macro, MacroTable};
 use crate::trouble::Trouble;
 use crate::work::Work;
 use std::alloc::{AllocError, Global};
@@ -17,7 +17,7 @@ pub const MOST_WITHIN: usize = 200;
 
 /// What is still to be read: a token, or the end of what came of a macro.
 #[derive(Clone, Copy, Debug)]
-pub enum Item {
+pub enum PendingItem {
     Token(Atom),
     End,
 }
@@ -25,31 +25,31 @@ pub enum Item {
 /// What is still to be read, the next of it last, and the macros in what came of which it stands.
 #[derive(Drop)]
 pub struct Pending {
-    items: Vec<Item>,
+    items: Vec<PendingItem>,
     active: Vec<usize>,
 }
 
-fn add_reversed(items: &mut Vec<Item>, atoms: &[Atom]) -> Result<(), AllocError>
+fn add_reversed(items: &mut Vec<PendingItem>, atoms: &[Atom]) -> Result<(), AllocError>
     ensures { OnOk result (items.new.items ≡ items.old.items ++ reverse (rules.tokens atoms.now)) }
 {
     let mut at = atoms.len();
     while at > 0 {
         at -= 1;
-        items.push(Item::Token(atoms[at]))?;
+        items.push(PendingItem::Token(atoms[at]))?;
     }
     Ok(())
 }
 
 /// Whether the next token is a `(`.
-fn opens_next(items: &[Item]) -> bool
+fn opens_next(items: &[PendingItem]) -> bool
     ensures { result ≡ rules.opens_next (reverse items.now) }
 {
     let mut at = items.len();
     while at > 0 {
         at -= 1;
         match items[at] {
-            Item::Token(atom) => return same_sort(atom.sort, Sort::OpenParen),
-            Item::End => {}
+            PendingItem::Token(atom) => return same_sort(atom.sort, AtomSort::OpenParen),
+            PendingItem::End => {}
         }
     }
     false
@@ -59,7 +59,7 @@ fn opens_next(items: &[Item]) -> bool
 fn seen(atom: Atom, active: &[usize]) -> Atom
     ensures { result ≡ rules.seen active.now atom }
 {
-    if same_sort(atom.sort, Sort::Name) && active.contains(&atom.text) {
+    if same_sort(atom.sort, AtomSort::Name) && active.contains(&atom.text) {
         atom.painted()
     } else {
         atom
@@ -79,24 +79,24 @@ fn take_arguments(
     let mut depth = 0usize;
     while let Some(item) = pending.items.pop() {
         match item {
-            Item::End => {
+            PendingItem::End => {
                 pending.active.pop();
             }
-            Item::Token(atom) => {
+            PendingItem::Token(atom) => {
                 let atom = seen(atom, &pending.active);
-                if same_sort(atom.sort, Sort::OpenParen) {
+                if same_sort(atom.sort, AtomSort::OpenParen) {
                     if depth > 0 {
                         current.push(atom)?;
                     }
                     depth += 1;
-                } else if same_sort(atom.sort, Sort::CloseParen) {
+                } else if same_sort(atom.sort, AtomSort::CloseParen) {
                     if depth <= 1 {
                         arguments.push(current)?;
                         return Ok(Some(arguments));
                     }
                     depth -= 1;
                     current.push(atom)?;
-                } else if same_sort(atom.sort, Sort::Comma) && depth <= 1 {
+                } else if same_sort(atom.sort, AtomSort::Comma) && depth <= 1 {
                     arguments.push(current)?;
                     current = Vec::new(alloc);
                 } else {
@@ -164,7 +164,7 @@ fn enter(
         return Err(Trouble::Much(atom));
     }
     *left -= body.len() + 1;
-    pending.items.push(Item::End)?;
+    pending.items.push(PendingItem::End)?;
     pending.active.push(made.name)?;
     add_reversed(&mut pending.items, body)?;
     Ok(())
@@ -173,10 +173,10 @@ fn enter(
 /// Puts the body of the macro that a token names, with these arguments, in front of what is still to be read.
 fn enter_call(
     alloc: Global,
-    table: &Table,
+    table: &MacroTable,
     work: &mut Work,
     atom: Atom,
-    given: Given<'_>,
+    given: CallArguments<'_>,
     pending: &mut Pending,
 ) -> Result<(), Trouble>
     ensures fewer { work.new.left ≤ work.old.left }
@@ -194,7 +194,7 @@ fn enter_call(
 
 /// What a token is at its place.
 #[derive(Clone, Copy, Debug, PartialEq, Eq)]
-pub enum Standing {
+pub enum AtomStanding {
     /// It comes out.
     Stays,
     /// It comes out, and is never replaced.
@@ -206,25 +206,25 @@ pub enum Standing {
 }
 
 #[tactic(auto, unfolding(crate::specs::Calls::standing))]
-fn standing_of(table: &Table, atom: Atom, pending: &Pending) -> Standing
+fn standing_of(table: &MacroTable, atom: Atom, pending: &Pending) -> AtomStanding
     ensures { result ≡ rules.standing (known table.now) pending.now.active.items atom (reverse pending.now.items.items) }
 {
-    if !same_sort(atom.sort, Sort::Name) || atom.is_painted {
-        return Standing::Stays;
+    if !same_sort(atom.sort, AtomSort::Name) || atom.is_painted {
+        return AtomStanding::Stays;
     }
     match table.find(atom.text) {
-        None => Standing::Stays,
+        None => AtomStanding::Stays,
         Some(made) => {
             if pending.active.contains(&atom.text) {
-                return Standing::Painted;
+                return AtomStanding::Painted;
             }
             match made.parameters {
-                None => Standing::Object,
+                None => AtomStanding::Object,
                 Some(wanted) => {
                     if opens_next(&pending.items) {
-                        Standing::Call(wanted)
+                        AtomStanding::Call(wanted)
                     } else {
-                        Standing::Stays
+                        AtomStanding::Stays
                     }
                 }
             }
@@ -240,8 +240,8 @@ fn next_token(pending: &mut Pending) -> Option<Atom>
 {
     while let Some(item) = pending.items.pop() {
         match item {
-            Item::Token(atom) => return Some(atom),
-            Item::End => {
+            PendingItem::Token(atom) => return Some(atom),
+            PendingItem::End => {
                 pending.active.pop();
             }
         }
@@ -252,7 +252,7 @@ fn next_token(pending: &mut Pending) -> Option<Atom>
 /// Reads a token: it comes out, or is replaced, or its arguments are answered.
 fn turn(
     alloc: Global,
-    table: &Table,
+    table: &MacroTable,
     work: &mut Work,
     atom: Atom,
     pending: &mut Pending,
@@ -264,28 +264,28 @@ fn turn(
         (rules.TurnsFrom (known table.now) atom out.old.items pending.old out.new.items pending.new) }
 {
     match standing_of(table, atom, pending) {
-        Standing::Stays => {
+        AtomStanding::Stays => {
             out.push(atom)?;
             Ok(None)
         }
-        Standing::Painted => {
+        AtomStanding::Painted => {
             out.push(atom.painted())?;
             Ok(None)
         }
-        Standing::Object => {
-            let given = Given {
+        AtomStanding::Object => {
+            let given = CallArguments {
                 raw: &[],
                 expanded: &[],
             };
             enter_call(alloc, table, work, atom, given, pending)?;
             Ok(None)
         }
-        Standing::Call(wanted) => Ok(Some(arguments_of(alloc, pending, wanted, atom)?)),
+        AtomStanding::Call(wanted) => Ok(Some(arguments_of(alloc, pending, wanted, atom)?)),
     }
 }
 
 /// Whether what comes of an argument of a call is asked for.
-fn is_asked(table: &Table, name: usize, number: usize) -> bool
+fn is_asked(table: &MacroTable, name: usize, number: usize) -> bool
     ensures { (m : Rule) → known table.now name ≡ Some m → result ≡ rules.is_wanted m number }
 {
     match table.find(name) {
@@ -311,7 +311,7 @@ fn pending_of(alloc: Global, active: &[usize], atoms: &[Atom]) -> Result<Pending
 /// What comes of tokens that stand within macros, where so many arguments more may be within one another.
 fn read(
     alloc: Global,
-    table: &Table,
+    table: &MacroTable,
     work: &mut Work,
     active: &[usize],
     atoms: &[Atom],
@@ -342,7 +342,7 @@ fn read(
                     all.push(Vec::new(alloc))?;
                 }
             }
-            let given = Given {
+            let given = CallArguments {
                 raw: &arguments,
                 expanded: &all,
             };
@@ -355,7 +355,7 @@ fn read(
 /// What comes of tokens, where no more are put in place of calls than may be.
 pub fn replaced_calls(
     alloc: Global,
-    table: &Table,
+    table: &MacroTable,
     work: &mut Work,
     atoms: &[Atom],
 ) -> Result<Vec<Atom>, Trouble>

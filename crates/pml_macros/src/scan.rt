@@ -2,15 +2,15 @@
 
 ghost use Rattle.std.specs.Prelude.{◌≤◌, ◌<◌, length, IfSome};
 
-use crate::atom::Sort;
+use crate::atom::AtomSort;
 
 /// What a lexeme is.
 #[derive(Clone, Copy, Debug, PartialEq, Eq)]
-pub enum Lexeme {
+pub enum PreprocessingLexeme {
     /// A blank, or a comment.
     Blank,
     LineFeed,
-    Token(Sort),
+    Token(AtomSort),
     /// A comment that is not closed, with all that stands behind it.
     Unclosed,
 }
@@ -110,27 +110,30 @@ fn comment_end(text: &[u8]) -> Option<usize>
     None
 }
 
-fn quoted(sort: Sort, quote: u8, text: &[u8]) -> (usize, Lexeme)
+fn quoted(sort: AtomSort, quote: u8, text: &[u8]) -> (usize, PreprocessingLexeme)
     requires { 0 < length text.now }
     ensures { (0 < result.0) × (result.0 ≤ length text.now) }
 {
     match quote_end(quote, text) {
-        Some(end) => (end, Lexeme::Token(sort)),
-        None => (1 + line_bytes(&text[1..]), Lexeme::Token(Sort::Stray)),
+        Some(end) => (end, PreprocessingLexeme::Token(sort)),
+        None => (
+            1 + line_bytes(&text[1..]),
+            PreprocessingLexeme::Token(AtomSort::Stray),
+        ),
     }
 }
 
-fn slash(text: &[u8]) -> (usize, Lexeme)
+fn slash(text: &[u8]) -> (usize, PreprocessingLexeme)
     requires { 0 < length text.now }
     ensures { (0 < result.0) × (result.0 ≤ length text.now) }
 {
     match text {
         [_, b'*', ..] => match comment_end(text) {
-            Some(end) => (end, Lexeme::Blank),
-            None => (text.len(), Lexeme::Unclosed),
+            Some(end) => (end, PreprocessingLexeme::Blank),
+            None => (text.len(), PreprocessingLexeme::Unclosed),
         },
-        [_, b'/', rest @ ..] => (2 + line_bytes(rest), Lexeme::Blank),
-        _ => (1, Lexeme::Token(Sort::Sign)),
+        [_, b'/', rest @ ..] => (2 + line_bytes(rest), PreprocessingLexeme::Blank),
+        _ => (1, PreprocessingLexeme::Token(AtomSort::Sign)),
     }
 }
 
@@ -154,49 +157,58 @@ fn is_sign_of_two(a: u8, b: u8) -> bool {
     }
 }
 
-fn sort_of_one(b: u8) -> Sort {
+fn sort_of_one(b: u8) -> AtomSort {
     if b == b'(' {
-        Sort::OpenParen
+        AtomSort::OpenParen
     } else if b == b')' {
-        Sort::CloseParen
+        AtomSort::CloseParen
     } else if b == b',' {
-        Sort::Comma
+        AtomSort::Comma
     } else if b == b'#' {
-        Sort::Hash
+        AtomSort::Hash
     } else {
-        Sort::Sign
+        AtomSort::Sign
     }
 }
 
-fn sign(text: &[u8]) -> (usize, Lexeme)
+fn sign(text: &[u8]) -> (usize, PreprocessingLexeme)
     requires { 0 < length text.now }
     ensures { (0 < result.0) × (result.0 ≤ length text.now) }
 {
     match text {
-        [b'#', b'#', ..] => (2, Lexeme::Token(Sort::HashHash)),
-        [first, second, ..] if is_sign_of_two(*first, *second) => (2, Lexeme::Token(Sort::Sign)),
-        _ => (1, Lexeme::Token(sort_of_one(text[0]))),
+        [b'#', b'#', ..] => (2, PreprocessingLexeme::Token(AtomSort::HashHash)),
+        [first, second, ..] if is_sign_of_two(*first, *second) => (
+            2,
+            PreprocessingLexeme::Token(AtomSort::Sign),
+        ),
+        _ => (1, PreprocessingLexeme::Token(sort_of_one(text[0]))),
     }
 }
 
 /// The lexeme at the front of a text.
-pub fn next(text: &[u8]) -> (usize, Lexeme)
+pub fn next(text: &[u8]) -> (usize, PreprocessingLexeme)
     requires { 0 < length text.now }
     ensures { (0 < result.0) × (result.0 ≤ length text.now) }
 {
     let first = text[0];
     if first == b'\n' {
-        (1, Lexeme::LineFeed)
+        (1, PreprocessingLexeme::LineFeed)
     } else if is_blank(first) {
-        (1, Lexeme::Blank)
+        (1, PreprocessingLexeme::Blank)
     } else if is_letter(first) {
-        (name_bytes(text).max(1), Lexeme::Token(Sort::Name))
+        (
+            name_bytes(text).max(1),
+            PreprocessingLexeme::Token(AtomSort::Name),
+        )
     } else if is_digit(first) {
-        (number_bytes(text).max(1), Lexeme::Token(Sort::Number))
+        (
+            number_bytes(text).max(1),
+            PreprocessingLexeme::Token(AtomSort::Number),
+        )
     } else if first == b'"' {
-        quoted(Sort::Quoted, b'"', text)
+        quoted(AtomSort::Quoted, b'"', text)
     } else if first == b'\'' {
-        quoted(Sort::Character, b'\'', text)
+        quoted(AtomSort::Character, b'\'', text)
     } else if first == b'/' {
         slash(text)
     } else {
@@ -205,7 +217,7 @@ pub fn next(text: &[u8]) -> (usize, Lexeme)
 }
 
 /// What a text is, if it is one token.
-pub fn sort_of_whole(text: &[u8]) -> Option<Sort> {
+pub fn sort_of_whole(text: &[u8]) -> Option<AtomSort> {
     if text.is_empty() {
         return None;
     }
@@ -214,8 +226,8 @@ pub fn sort_of_whole(text: &[u8]) -> Option<Sort> {
         return None;
     }
     match lexeme {
-        Lexeme::Token(Sort::Stray) => None,
-        Lexeme::Token(sort) => Some(sort),
+        PreprocessingLexeme::Token(AtomSort::Stray) => None,
+        PreprocessingLexeme::Token(sort) => Some(sort),
         _ => None,
     }
 }

@@ -9,7 +9,7 @@ use std::collections::BTreeMap;
 
 /// What stands in place of a token of a macro's body.
 #[derive(Clone, Copy, Debug, PartialEq, Eq)]
-pub enum Role {
+pub enum Substitution {
     Itself,
     /// What comes of this argument.
     Expanded(usize),
@@ -21,9 +21,9 @@ pub enum Role {
 
 /// A token of a macro's body.
 #[derive(Clone, Copy, Debug)]
-pub struct Part {
+pub struct BodyToken {
     pub atom: Atom,
-    pub role: Role,
+    pub role: Substitution,
     /// `##` stands before it.
     pub is_joined: bool,
 }
@@ -35,20 +35,20 @@ pub struct Macro {
     pub name: usize,
     /// How many parameters it has, where it is called with parentheses.
     pub parameters: Option<usize>,
-    pub body: Vec<Part>,
+    pub body: Vec<BodyToken>,
 }
 
 /// All that are known.
 #[derive(Drop)]
-pub struct Table {
+pub struct MacroTable {
     macros: Vec<Macro>,
     places: BTreeMap<usize, usize>,
 }
 
-impl Table {
+impl MacroTable {
     /// No macro.
-    pub fn new(alloc: Global) -> Table {
-        Table {
+    pub fn new(alloc: Global) -> MacroTable {
+        MacroTable {
             macros: Vec::new(alloc),
             places: BTreeMap::new(alloc),
         }

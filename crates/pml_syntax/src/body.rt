@@ -359,7 +359,7 @@ fn items<'a>(
 ) -> Result<(Items<Item<'a>>, bool), ReadFault>
     ensures { Reads (reading.items_from depth (reading.items depth) (length tokens.old) false [] tokens.old) result tokens.new }
 {
-    let mut found = room_for(alloc, 1)?;
+    let mut found = Items::new(alloc);
     let mut step = false;
     for _turn in 0..tokens.left() {
         let (x, is_step, closed) = item(alloc, depth, tokens)?;

@@ -22,14 +22,14 @@ use Rattle.pml_lex.proofs.Scan.{next_is}
 use Rattle.pml_lex.proofs.Places.{token_place}
 use Rattle.pml_lex.proofs.Steps.{fresh_from-append}
 use Rattle.pml_lex.proofs.Wholes.{Divides, to_whole}
-use Rattle.prepare.specs.declared.roles.Role.{Role}
-use Rattle.prepare.specs.declared.roles.Role.TheVariants as as_role
+use Rattle.prepare.specs.declared.roles.TokenRole.{TokenRole}
+use Rattle.prepare.specs.declared.roles.TokenRole.TheVariants as as_role
 use Rattle.prepare.specs.declared.context.Supply.{Supply}
 use Rattle.prepare.specs.declared.context.Supply.TheVariants as supply
-use Rattle.prepare.specs.declared.context.Block.TheVariants.{Outside}
+use Rattle.prepare.specs.declared.context.BlankedBlock.TheVariants.{Outside}
 use Rattle.prepare.specs.declared.context.Context.{Context}
-use Rattle.prepare.specs.declared.stretch.Form.{Form}
-use Rattle.prepare.specs.declared.stretch.Form.TheVariants as form
+use Rattle.prepare.specs.declared.stretch.StretchForm.{StretchForm}
+use Rattle.prepare.specs.declared.stretch.StretchForm.TheVariants as form
 use Rattle.prepare.specs.Roles.{is_block_word, role}
 use Rattle.prepare.specs.Contexts.{written, is_blanked, behind, start}
 use Rattle.prepare.specs.Written.{Written}
@@ -236,10 +236,10 @@ stays_head f t back x y h = token_heads t.token x y h.scanned.some ∙ ap (λ (q
 joins_head : (t : Written) (x y : List ℕ) → Joins t → head (t.token ++ x) ≡ head (shown t.form t.token ++ y)
 joins_head t x y h =
     ap (λ (q : List ℕ). head (q ++ x)) h.bytes
-    ∙ sym (ap (λ (g : Form). head (shown g t.token ++ y)) h.is ∙ ap (λ (q : List ℕ). head (shown form.Joined q ++ y)) h.bytes ∙ ap (λ (q : List ℕ). head ((q ++ filter is_line_feed (34 ∷ h.others)) ++ y)) (first_quote h.others))
+    ∙ sym (ap (λ (g : StretchForm). head (shown g t.token ++ y)) h.is ∙ ap (λ (q : List ℕ). head (shown form.Joined q ++ y)) h.bytes ∙ ap (λ (q : List ℕ). head ((q ++ filter is_line_feed (34 ∷ h.others)) ++ y)) (first_quote h.others))
 
 blanks_head : (t : Written) (y : List ℕ) → Blanks t → head (shown t.form t.token ++ y) ≡ Some 32
-blanks_head t y h = ap (λ (g : Form). head (shown g t.token ++ y)) h.is ∙ ap (λ (q : List ℕ). head (map blank q ++ y)) h.bytes ∙ ap Some (black_blanked h.first h.black)
+blanks_head t y h = ap (λ (g : StretchForm). head (shown g t.token ++ y)) h.is ∙ ap (λ (q : List ℕ). head (map blank q ++ y)) h.bytes ∙ ap Some (black_blanked h.first h.black)
 
 token_follows : (f : Bool) (t : Written) (back x y : List ℕ) → Shows f t back → Follows (t.token ++ x) (shown t.form t.token ++ y)
 token_follows f t back x y shows =
@@ -324,7 +324,7 @@ over_blanked : (t : Written) (us : List Written) (before : List ℕ) (n : ℕ) �
     → Gives us → Cut before (shown t.form t.token ++ spelled us) (all_on n (kept t.form t.token) ++ written_from (line_from n t.token) us)
 over_blanked t us before n h line go =
     let behind_blanks : line_behind (before ++ map blank t.token) ≡ line_from n t.token = line_on before (map blank t.token) n line ∙ ap (λ (m : ℕ). n + m) (blanks_feeds t.token) in
-    subst (λ (g : Form). Cut before (shown g t.token ++ spelled us) (all_on n (kept g t.token) ++ written_from (line_from n t.token) us)) (sym h.is)
+    subst (λ (g : StretchForm). Cut before (shown g t.token ++ spelled us) (all_on n (kept g t.token) ++ written_from (line_from n t.token) us)) (sym h.is)
     (over_blanks (map blank t.token) before (spelled us) (written_from (line_from n t.token) us) (are_blanks t.token) (go (before ++ map blank t.token) (line_from n t.token) behind_blanks))
 
 quoted_size : (q back : List ℕ) → string_end 1 false q ≡ Some (1 + length q) → (f : Bool) → next f ((34 ∷ unbroken false q) ++ back) ≡ Some (length (34 ∷ unbroken false q), Token kind.Quoted)
@@ -336,7 +336,7 @@ quoted_size q back h f =
 over_joined : (t : Written) (us : List Written) (before : List ℕ) (n : ℕ) → Joins t → line_behind before ≡ n
     → Gives us → Cut before (shown t.form t.token ++ spelled us) (all_on n (kept t.form t.token) ++ written_from (line_from n t.token) us)
 over_joined t us before n h line go =
-    subst (λ (g : Form). Cut before (shown g t.token ++ spelled us) (all_on n (kept g t.token) ++ written_from (line_from n t.token) us)) (sym h.is)
+    subst (λ (g : StretchForm). Cut before (shown g t.token ++ spelled us) (all_on n (kept g t.token) ++ written_from (line_from n t.token) us)) (sym h.is)
     (subst (λ (q : List ℕ). Cut before (shown form.Joined q ++ spelled us) (all_on n (kept form.Joined q) ++ written_from (line_from n q) us)) (sym h.bytes)
     (string (34 ∷ h.others) (34 ∷ unbroken false h.others) (filter is_line_feed (34 ∷ h.others)) (first_quote h.others) (λ back f. quoted_size h.others back h.ends f) (omega arith) (feeds_are_blanks (34 ∷ h.others)) (no_feeds (34 ∷ h.others)) (filter_feeds (34 ∷ h.others))))
   where
@@ -466,7 +466,7 @@ first_nothing : (p : Context) (k : Kind) (gap t : List ℕ) → p ≡ start → 
 unfolding stretch
 first_nothing p k gap t e = ap (λ (x : Context). (stretch x k gap t).supply) e ∙ nothing_by (is_blanked Outside (role k t)) _ refl
 
-kept_outside : (r : Role) (t : List ℕ) → list_any is_line_feed t ≡ false → kept (form_outside r) t ≡ t ∷ []
+kept_outside : (r : TokenRole) (t : List ℕ) → list_any is_line_feed t ≡ false → kept (form_outside r) t ≡ t ∷ []
 kept_outside as_role.Quotes t h = ap (λ (x : List ℕ). x ∷ []) (unbroken_stays false t h)
 kept_outside _ t h = refl
 
@@ -507,8 +507,8 @@ stays_stretch f p k gap q back out scanned h =
       sort = k;
       scanned = scanned;
       keeps = keeps_by p k gap q out h;
-      same = ap (λ (x : Form). shown x q) formed ∙ shown_stays (form_outside (role k q)) q (form_stays (role k q) q none);
-      single = ap (λ (x : Form). kept x q) formed ∙ kept_outside (role k q) q none;
+      same = ap (λ (x : StretchForm). shown x q) formed ∙ shown_stays (form_outside (role k q)) q (form_stays (role k q) q none);
+      single = ap (λ (x : StretchForm). kept x q) formed ∙ kept_outside (role k q) q none;
     }
 
 blanks_stretch : (p : Context) (k : Kind) (gap : List ℕ) (b : ℕ) (q : List ℕ) → is_blanked p.block (role k (b ∷ q)) ≡ true → is_blank b ≡ false → Blanks (stretch p k gap (b ∷ q))

@@ -7,10 +7,10 @@ use Rattle.std.proofs.lemmas.Bool.Decides.{nat_tests}
 use Rattle.pml_token.specs.declared.token.Kind.{Kind}
 use Rattle.pml_token.specs.declared.token.Kind.TheVariants as kind
 use Rattle.pml_token.specs.Word.{same_kind}
-use Rattle.prepare.specs.declared.roles.Role.{Role}
-use Rattle.prepare.specs.declared.roles.Role.TheVariants as as_role
-use Rattle.prepare.specs.declared.context.Block.{Block}
-use Rattle.prepare.specs.declared.context.Block.TheVariants as block
+use Rattle.prepare.specs.declared.roles.TokenRole.{TokenRole}
+use Rattle.prepare.specs.declared.roles.TokenRole.TheVariants as as_role
+use Rattle.prepare.specs.declared.context.BlankedBlock.{BlankedBlock}
+use Rattle.prepare.specs.declared.context.BlankedBlock.TheVariants as block
 use Rattle.prepare.specs.declared.context.Context.{Context}
 use Rattle.prepare.specs.Roles.{role}
 use Rattle.prepare.specs.Contexts as contexts
@@ -23,7 +23,7 @@ use Rattle.prepare.proofs.Blocks.{blank_is}
 use Rattle.prepare.proofs.Chain.{IsWord, IsLast, Chain, chained, opens_role, closes_role, names_role, heads_is, opens_is, closes_is, names_is}
 
 -- what a token is, by its role
-record Is (r : Role) (u : Written) : Type 0 where
+record Is (r : TokenRole) (u : Written) : Type 0 where
   heads : heads u ≡ is_head_word r
   opens : opens u ≡ opens_role r
   closes : closes u ≡ closes_role r
@@ -49,7 +49,7 @@ record Within (n : ℕ) (us : List Written) : Type 0 where
   blanked : list_all is_blanked body ≡ true
   more : BlanksAreBlocks rest
 
-AtBlock : Block → List Written → Type 0
+AtBlock : BlankedBlock → List Written → Type 0
 AtBlock block.Outside us = BlanksAreBlocks us
 AtBlock block.Ahead us = Ahead us
 AtBlock (block.Within n) us = 0 < n → Within n us
@@ -121,7 +121,7 @@ unfolding AtBlock
 inner_closes true n u us e some o blanked at = within_more n (n - 1) u us some o blanked (at (grind (arith, nat_tests)))
 inner_closes false n u us e some o blanked at = within_now n u us some (let one : n - 1 ≡ 0 = grind (arith, nat_tests) in o ∙ one) blanked at
 
-inner : (n : ℕ) (r : Role) (u : Written) (us : List Written) → Is r u → is_blanked u ≡ true → AtBlock (block_behind (block.Within n) r) us → 0 < n → Within n (u ∷ us)
+inner : (n : ℕ) (r : TokenRole) (u : Written) (us : List Written) → Is r u → is_blanked u ≡ true → AtBlock (block_behind (block.Within n) r) us → 0 < n → Within n (u ∷ us)
 unfolding AtBlock
 inner n as_role.Opens u us is blanked at some = within_more n (deeper n) u us some (open_is n u true (closes u) is.opens refl) blanked (at (deeper_some (nat_lt n 1000000) n some))
 inner n as_role.Closes u us is blanked at some = inner_closes (nat_lt 1 n) n u us refl some (open_is n u false true is.opens is.closes) blanked at
@@ -177,7 +177,7 @@ or_right : (a b : Bool) → b ≡ true → (a || b) ≡ true
 or_right true b e = refl
 or_right false b e = e
 
-ahead : (r : Role) (u : Written) (us : List Written) → Is r u → is_blanked u ≡ contexts.is_blanked block.Ahead r → AtBlock (block_behind block.Ahead r) us → Ahead (u ∷ us)
+ahead : (r : TokenRole) (u : Written) (us : List Written) → Is r u → is_blanked u ≡ contexts.is_blanked block.Ahead r → AtBlock (block_behind block.Ahead r) us → Ahead (u ∷ us)
 unfolding AtBlock
 ahead as_role.Heads u us is blanked at = ahead_more u us (or_left (heads u) (same_kind u.kind kind.Name) is.heads) blanked at
 ahead as_role.Names u us is blanked at = ahead_more u us (or_right (heads u) (same_kind u.kind kind.Name) is.names) blanked at
@@ -200,12 +200,12 @@ whole u us head blanked w =
     } in
     subst (λ (x : List Written). BlanksAreBlocks (u ∷ x)) (sym w.joins) (blanks.block is w.more)
 
-outside : (r : Role) (u : Written) (us : List Written) → Is r u → is_blanked u ≡ contexts.is_blanked block.Outside r → AtBlock (block_behind block.Outside r) us → BlanksAreBlocks (u ∷ us)
+outside : (r : TokenRole) (u : Written) (us : List Written) → Is r u → is_blanked u ≡ contexts.is_blanked block.Outside r → AtBlock (block_behind block.Outside r) us → BlanksAreBlocks (u ∷ us)
 unfolding AtBlock
 outside as_role.Heads u us is blanked at = whole u us is.heads blanked at
 outside _ u us is blanked at = blanks.kept blanked is.heads at
 
-step : (b : Block) (r : Role) (u : Written) (us : List Written) → Is r u → is_blanked u ≡ contexts.is_blanked b r → AtBlock (block_behind b r) us → AtBlock b (u ∷ us)
+step : (b : BlankedBlock) (r : TokenRole) (u : Written) (us : List Written) → Is r u → is_blanked u ≡ contexts.is_blanked b r → AtBlock (block_behind b r) us → AtBlock b (u ∷ us)
 unfolding AtBlock
 step block.Outside r u us is blanked at = outside r u us is blanked at
 step block.Ahead r u us is blanked at = ahead r u us is blanked at
@@ -224,7 +224,7 @@ unfolding stretch
 stretch_blanked p k gap t = blank_is p.block (role k t)
 
 -- at the end of the text
-at_last : (b : Block) (u : Written) → IsLast u → AtBlock b (u ∷ [])
+at_last : (b : BlankedBlock) (u : Written) → IsLast u → AtBlock b (u ∷ [])
 unfolding AtBlock
 at_last block.Outside u h = blanks.last h.stays
 at_last block.Ahead u h = record {

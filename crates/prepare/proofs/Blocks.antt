@@ -2,10 +2,10 @@
 use Rattle.std.proofs.Common.{◌≡◌, ℕ, Bool, true, false, cond, ◌||◌, List, sym, refl, ◌∙◌}
 use Rattle.pml_token.specs.declared.token.Kind.{Kind}
 use Rattle.pml_token.specs.declared.token.Kind.TheVariants as kind
-use Rattle.prepare.specs.declared.roles.Role.{Role}
-use Rattle.prepare.specs.declared.roles.Role.TheVariants as as_role
-use Rattle.prepare.specs.declared.context.Block.{Block}
-use Rattle.prepare.specs.declared.stretch.Form.TheVariants as form
+use Rattle.prepare.specs.declared.roles.TokenRole.{TokenRole}
+use Rattle.prepare.specs.declared.roles.TokenRole.TheVariants as as_role
+use Rattle.prepare.specs.declared.context.BlankedBlock.{BlankedBlock}
+use Rattle.prepare.specs.declared.stretch.StretchForm.TheVariants as form
 use Rattle.prepare.specs.Roles.{is_block_word, is_both, is_ending, declares, acts, asks, bracket, role}
 use Rattle.prepare.specs.Contexts.{is_head_word, is_blanked}
 use Rattle.prepare.specs.Stretches.{form_of, form_outside}
@@ -42,13 +42,13 @@ word_by false false false false x h = sym (no_head x) ∙ h
 pub head_is_word : (x : Kind) (t : List ℕ) → is_head_word (role x t) ≡ true → is_block_word t ≡ true
 head_is_word x t h = word_by (is_block_word t) (is_both x) (is_ending x) (declares x || (acts x || asks x)) x h
 
-pub outside_kept : (r : Role) → is_blank_form (form_outside r) ≡ false
+pub outside_kept : (r : TokenRole) → is_blank_form (form_outside r) ≡ false
 outside_kept as_role.Quotes = refl
 outside_kept _ = refl
 
-blank_by : (t : Bool) (r : Role) → is_blank_form (cond t form.Blanked (form_outside r)) ≡ t
+blank_by : (t : Bool) (r : TokenRole) → is_blank_form (cond t form.Blanked (form_outside r)) ≡ t
 blank_by true r = refl
 blank_by false r = outside_kept r
 
-pub blank_is : (b : Block) (r : Role) → is_blank_form (form_of b r) ≡ is_blanked b r
+pub blank_is : (b : BlankedBlock) (r : TokenRole) → is_blank_form (form_of b r) ≡ is_blanked b r
 blank_is b r = blank_by (is_blanked b r) r

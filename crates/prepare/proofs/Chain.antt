@@ -11,8 +11,8 @@ use Rattle.promela_text.specs.Tokens.{lexeme, fresh_from}
 use Rattle.pml_lex.specs.Scanning.{next}
 use Rattle.pml_lex.proofs.Longest.{IsNext}
 use Rattle.pml_lex.proofs.Scan.{next_is}
-use Rattle.prepare.specs.declared.roles.Role.{Role}
-use Rattle.prepare.specs.declared.roles.Role.TheVariants as as_role
+use Rattle.prepare.specs.declared.roles.TokenRole.{TokenRole}
+use Rattle.prepare.specs.declared.roles.TokenRole.TheVariants as as_role
 use Rattle.prepare.specs.declared.context.Context.{Context}
 use Rattle.prepare.specs.declared.context.Supply.TheVariants as supply
 use Rattle.prepare.specs.Roles.{is_block_word, is_both, is_ending, declares, acts, asks, bracket, role, begins}
@@ -110,43 +110,43 @@ pub chained : (text : List ℕ) → Chain start (stretches text)
 chained text = read (length text) true start [] text (omega arith)
 
 -- the role of a token that is no word of a block
-abbrev pub plain : Kind → Role
+abbrev pub plain : Kind → TokenRole
 plain x = cond (is_both x) as_role.Both (cond (is_ending x) as_role.Ends (cond (declares x || (acts x || asks x)) as_role.Begins (bracket x)))
 
-role_by : (b : Bool) (f : Role → Bool) (g : Kind → Bool) (k : Kind) (t : List ℕ) → is_block_word t ≡ b → IsWord k t → f as_role.Heads ≡ g kind.LeftOut → f (plain k) ≡ g k → f (role k t) ≡ g k
+role_by : (b : Bool) (f : TokenRole → Bool) (g : Kind → Bool) (k : Kind) (t : List ℕ) → is_block_word t ≡ b → IsWord k t → f as_role.Heads ≡ g kind.LeftOut → f (plain k) ≡ g k → f (role k t) ≡ g k
 role_by true f g k t e word heads plains = ap (λ (x : Bool). f (cond x as_role.Heads (plain k))) e ∙ heads ∙ ap g (sym (word e))
 role_by false f g k t e word heads plains = ap (λ (x : Bool). f (cond x as_role.Heads (plain k))) e ∙ plains
 
 -- what a role is, by the kind of its token
-pub by_kind : (f : Role → Bool) (g : Kind → Bool) (k : Kind) (t : List ℕ) → IsWord k t → f as_role.Heads ≡ g kind.LeftOut → f (plain k) ≡ g k → f (role k t) ≡ g k
+pub by_kind : (f : TokenRole → Bool) (g : Kind → Bool) (k : Kind) (t : List ℕ) → IsWord k t → f as_role.Heads ≡ g kind.LeftOut → f (plain k) ≡ g k → f (role k t) ≡ g k
 by_kind f g k t word heads plains = role_by (is_block_word t) f g k t refl word heads plains
 
-abbrev pub opens_role : Role → Bool
+abbrev pub opens_role : TokenRole → Bool
 opens_role as_role.Opens = true
 opens_role _ = false
 
-abbrev pub closes_role : Role → Bool
+abbrev pub closes_role : TokenRole → Bool
 closes_role as_role.Closes = true
 closes_role _ = false
 
-abbrev pub names_role : Role → Bool
+abbrev pub names_role : TokenRole → Bool
 names_role as_role.Names = true
 names_role _ = false
 
-abbrev pub enters_role : Role → Bool
+abbrev pub enters_role : TokenRole → Bool
 enters_role as_role.Enters = true
 enters_role as_role.Indexes = true
 enters_role _ = false
 
-abbrev pub leaves_role : Role → Bool
+abbrev pub leaves_role : TokenRole → Bool
 leaves_role as_role.Leaves = true
 leaves_role _ = false
 
-abbrev pub labels_role : Role → Bool
+abbrev pub labels_role : TokenRole → Bool
 labels_role as_role.Labels = true
 labels_role _ = false
 
-abbrev pub ends_role : Role → Bool
+abbrev pub ends_role : TokenRole → Bool
 ends_role as_role.Closes = true
 ends_role as_role.Leaves = true
 ends_role as_role.Names = true
@@ -154,7 +154,7 @@ ends_role as_role.Both = true
 ends_role as_role.Ends = true
 ends_role _ = false
 
-abbrev pub closing_role : Role → Bool
+abbrev pub closing_role : TokenRole → Bool
 closing_role as_role.Closes = true
 closing_role as_role.Parts = true
 closing_role _ = false

@@ -7,10 +7,10 @@ use Rattle.std.proofs.lemmas.Fmt.{decimal_by_steps}
 use lib.Chars.{codes}
 use Rattle.promela_text.specs.Tokens.{is_line_feed}
 use Rattle.prepare.specs.declared.markers.TheConstants.{MOST_LINE}
-use Rattle.prepare.specs.declared.changes.Head.{Head}
-use Rattle.prepare.specs.declared.changes.Head.TheVariants as head
-use Rattle.prepare.specs.declared.changes.Change.{Change}
-use Rattle.prepare.specs.declared.changes.Change.TheVariants as change
+use Rattle.prepare.specs.declared.changes.PhraseHead.{PhraseHead}
+use Rattle.prepare.specs.declared.changes.PhraseHead.TheVariants as head
+use Rattle.prepare.specs.declared.changes.Respelling.{Respelling}
+use Rattle.prepare.specs.declared.changes.Respelling.TheVariants as change
 use Rattle.prepare.specs.Contexts.{start}
 use Rattle.prepare.specs.Written.{Written}
 use Rattle.prepare.specs.Stretches.{stretches}
@@ -19,7 +19,8 @@ use Rattle.prepare.specs.Changes.{change_of, head_behind, exchanges_by, exchange
 use Rattle.prepare.specs.Spelling.{spelled}
 use Rattle.prepare.specs.Numbering.{bare, numbered, has_marker, first_standing}
 use Rattle.prepare.specs.Coding.{coded, has_character}
-use Rattle.prepare.specs.Laws.{owns, source, sources, separated, exchanged, prepared, is_mended, has_change}
+use Rattle.prepare.specs.Changed.{owns}
+use Rattle.prepare.specs.Laws.{source, sources, separated, exchanged, prepared, is_mended, has_change}
 use Rattle.prepare.proofs.Fronts.{uncoded}
 use Rattle.prepare.proofs.Lines.{feeds, feeds-append, digit_feeds, blanks_feeds, filter_feeds}
 use Rattle.prepare.proofs.Plain.{and_left, and_right, sources_are, all_stay, unmarked}
@@ -43,7 +44,7 @@ numbers_feeds n =
     let b = decimal_feeds (min n MOST_LINE) (omega arith) in
     omega arith
 
-pub shown_feeds : (c : Change) (t : List ℕ) → feeds (shown c t) ≡ feeds t
+pub shown_feeds : (c : Respelling) (t : List ℕ) → feeds (shown c t) ≡ feeds t
 shown_feeds change.Kept t = refl
 shown_feeds change.Left t = refl
 shown_feeds change.Blanked t = blanks_feeds t
@@ -57,7 +58,7 @@ shown_feeds (change.Range n) t =
     let c = filter_feeds t in
     omega arith
 
-one_more : (ds : List Declared) (h : Head) (t : Written) (ts : List Written)
+one_more : (ds : List Declared) (h : PhraseHead) (t : Written) (ts : List Written)
     → feeds (respelled (exchanges_by ds (head_behind h t.kind t.token) ts)) ≡ feeds (sources ts) → feeds (respelled (exchanges_by ds h (t ∷ ts))) ≡ feeds (sources (t ∷ ts))
 one_more ds h t ts e =
     let c = change_of ds h t ts in
@@ -70,21 +71,21 @@ one_more ds h t ts e =
     omega arith
 
 -- what becomes of stretches has as many lines as they have
-respelled_feeds : (ds : List Declared) (h : Head) (ts : List Written) → feeds (respelled (exchanges_by ds h ts)) ≡ feeds (sources ts)
+respelled_feeds : (ds : List Declared) (h : PhraseHead) (ts : List Written) → feeds (respelled (exchanges_by ds h ts)) ≡ feeds (sources ts)
 respelled_feeds ds h [] = refl
 respelled_feeds ds h (t ∷ ts) = one_more ds h t ts (respelled_feeds ds (head_behind h t.kind t.token) ts)
 
 pub exchanged_feeds : (text : List ℕ) → feeds (exchanged text) ≡ feeds text
 exchanged_feeds text = respelled_feeds (declared (stretches text)) head.Outside (stretches text) ∙ ap feeds (sources_are _ true start [] text)
 
-kept_stays : (c : Change) (t : List ℕ) → is_kept c ≡ true → shown c t ≡ t
+kept_stays : (c : Respelling) (t : List ℕ) → is_kept c ≡ true → shown c t ≡ t
 kept_stays change.Kept t h = refl
 kept_stays change.Left t h = refl
 kept_stays change.Blanked t h = absurd (false≢true h)
 kept_stays change.Colon t h = absurd (false≢true h)
 kept_stays (change.Range n) t h = absurd (false≢true h)
 
-all_same : (ds : List Declared) (h : Head) (ts : List Written) → list_all is_same (exchanges_by ds h ts) ≡ true → respelled (exchanges_by ds h ts) ≡ sources ts
+all_same : (ds : List Declared) (h : PhraseHead) (ts : List Written) → list_all is_same (exchanges_by ds h ts) ≡ true → respelled (exchanges_by ds h ts) ≡ sources ts
 all_same ds h [] e = refl
 all_same ds h (t ∷ ts) e =
     let c = change_of ds h t ts in
@@ -96,7 +97,7 @@ all_same ds h (t ∷ ts) e =
 none_changed : (text : List ℕ) → list_all is_same (exchanges (stretches text)) ≡ true → exchanged text ≡ text
 none_changed text h = all_same (declared (stretches text)) head.Outside (stretches text) h ∙ sources_are _ true start [] text
 
-owns_are : (ds : List Declared) (h : Head) (ts : List Written) → owns (exchanges_by ds h ts) ≡ sources ts
+owns_are : (ds : List Declared) (h : PhraseHead) (ts : List Written) → owns (exchanges_by ds h ts) ≡ sources ts
 owns_are ds h [] = refl
 owns_are ds h (t ∷ ts) = ap (λ (xs : List ℕ). source t ++ xs) (owns_are ds (head_behind h t.kind t.token) ts)
 

@@ -7,10 +7,10 @@ use Rattle.std.proofs.lemmas.Bool.Decides.{nat_tests}
 use Rattle.pml_token.specs.declared.token.Kind.{Kind}
 use Rattle.pml_token.specs.declared.token.Kind.TheVariants as kind
 use Rattle.pml_token.specs.Word.{same_kind}
-use Rattle.prepare.specs.declared.roles.Role.{Role}
-use Rattle.prepare.specs.declared.roles.Role.TheVariants as as_role
-use Rattle.prepare.specs.declared.context.Last.{Last}
-use Rattle.prepare.specs.declared.context.Last.TheVariants as state
+use Rattle.prepare.specs.declared.roles.TokenRole.{TokenRole}
+use Rattle.prepare.specs.declared.roles.TokenRole.TheVariants as as_role
+use Rattle.prepare.specs.declared.context.LastToken.{LastToken}
+use Rattle.prepare.specs.declared.context.LastToken.TheVariants as state
 use Rattle.prepare.specs.declared.context.Code.{Code}
 use Rattle.prepare.specs.declared.context.Context.{Context}
 use Rattle.prepare.specs.declared.context.Supply.{Supply}
@@ -39,19 +39,19 @@ record Knows (c : Code) (n m : ℕ) (o : Option Kind) : Type 0 where
   ended : c.last ≡ state.Ended → is may_end o ≡ true
   labelled : c.last ≡ state.Labelled → is is_colon o ≡ true
 
-braces_role : (c : Code) (r : Role) → (code_behind c r).braces ≡ cond (opens_role r) (deeper c.braces) (cond (closes_role r) (c.braces - 1) c.braces)
+braces_role : (c : Code) (r : TokenRole) → (code_behind c r).braces ≡ cond (opens_role r) (deeper c.braces) (cond (closes_role r) (c.braces - 1) c.braces)
 braces_role c as_role.Opens = refl
 braces_role c _ = refl
 
-brackets_role : (c : Code) (r : Role) → (code_behind c r).brackets ≡ cond (enters_role r) (deeper c.brackets) (cond (leaves_role r) (c.brackets - 1) c.brackets)
+brackets_role : (c : Code) (r : TokenRole) → (code_behind c r).brackets ≡ cond (enters_role r) (deeper c.brackets) (cond (leaves_role r) (c.brackets - 1) c.brackets)
 brackets_role c as_role.Enters = refl
 brackets_role c _ = refl
 
-ended_if : (b : Bool) (x y : Last) → cond b x y ≡ state.Ended → (x ≡ state.Ended → ⊥) → (y ≡ state.Ended → ⊥) → ⊥
+ended_if : (b : Bool) (x y : LastToken) → cond b x y ≡ state.Ended → (x ≡ state.Ended → ⊥) → (y ≡ state.Ended → ⊥) → ⊥
 ended_if true x y e f g = f e
 ended_if false x y e f g = g e
 
-ended_role : (c : Code) (r : Role) → (code_behind c r).last ≡ state.Ended → ends_role r ≡ true
+ended_role : (c : Code) (r : TokenRole) → (code_behind c r).last ≡ state.Ended → ends_role r ≡ true
 ended_role c as_role.Closes e = refl
 ended_role c as_role.Leaves e = refl
 ended_role c as_role.Names e = refl
@@ -61,11 +61,11 @@ ended_role c as_role.Labels e = absurd (ended_if (is_typed c.last) state.Subtype
 ended_role c as_role.Assigns e = absurd (ended_if (is_typed c.last) state.Open state.Assigned e (λ x. cc) (λ x. cc))
 ended_role c _ e = cc
 
-labelled_if : (b : Bool) (x y : Last) → cond b x y ≡ state.Labelled → (x ≡ state.Labelled → ⊥) → (y ≡ state.Labelled → ⊥) → ⊥
+labelled_if : (b : Bool) (x y : LastToken) → cond b x y ≡ state.Labelled → (x ≡ state.Labelled → ⊥) → (y ≡ state.Labelled → ⊥) → ⊥
 labelled_if true x y e f g = f e
 labelled_if false x y e f g = g e
 
-labelled_role : (c : Code) (r : Role) → (code_behind c r).last ≡ state.Labelled → labels_role r ≡ true
+labelled_role : (c : Code) (r : TokenRole) → (code_behind c r).last ≡ state.Labelled → labels_role r ≡ true
 labelled_role c as_role.Labels e = refl
 labelled_role c as_role.Closes e = absurd (labelled_if (c.is_fields && nat_lt 1 c.braces) state.Ended state.Open e (λ x. cc) (λ x. cc))
 labelled_role c as_role.Leaves e = absurd (labelled_if (c.is_head && nat_lt c.brackets 2) state.Open state.Ended e (λ x. cc) (λ x. cc))
@@ -136,17 +136,17 @@ separates : (b : Bool) → cond b Separator Nothing ≡ Separator → b ≡ true
 separates true e = refl
 separates false e = cc
 
-skip_by : (r : Role) → skip_before r ≡ Skip → closing_role r ≡ true
+skip_by : (r : TokenRole) → skip_before r ≡ Skip → closing_role r ≡ true
 skip_by as_role.Closes e = refl
 skip_by as_role.Parts e = refl
 skip_by _ e = cc
 
-no_separator : (r : Role) → skip_before r ≡ Separator → ⊥
+no_separator : (r : TokenRole) → skip_before r ≡ Separator → ⊥
 no_separator as_role.Closes e = cc
 no_separator as_role.Parts e = cc
 no_separator _ e = cc
 
-separator_by : (l : Last) (b : Bool) (r : Role) → supply_behind l b r ≡ Separator → (l ≡ state.Ended) × (b ≡ true)
+separator_by : (l : LastToken) (b : Bool) (r : TokenRole) → supply_behind l b r ≡ Separator → (l ≡ state.Ended) × (b ≡ true)
 separator_by state.Labelled b r e = absurd (no_separator r e)
 separator_by state.Ended b r e = (refl, separates b e)
 separator_by _ b r e = cc
@@ -155,7 +155,7 @@ no_skip : (b : Bool) → cond b Separator Nothing ≡ Skip → ⊥
 no_skip true e = cc
 no_skip false e = cc
 
-skipped_by : (l : Last) (b : Bool) (r : Role) → supply_behind l b r ≡ Skip → (l ≡ state.Labelled) × (closing_role r ≡ true)
+skipped_by : (l : LastToken) (b : Bool) (r : TokenRole) → supply_behind l b r ≡ Skip → (l ≡ state.Labelled) × (closing_role r ≡ true)
 skipped_by state.Labelled b r e = (refl, skip_by r e)
 skipped_by state.Ended b r e = absurd (no_skip b e)
 skipped_by _ b r e = cc

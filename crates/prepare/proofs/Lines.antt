@@ -11,8 +11,8 @@ use Rattle.promela_text.specs.Tokens.{is_line_feed, fresh_from}
 use Rattle.prepare.specs.declared.TheConstants.{FORM_FEED}
 use Rattle.prepare.specs.declared.context.Supply.{Supply}
 use Rattle.prepare.specs.declared.context.Supply.TheVariants as supply
-use Rattle.prepare.specs.declared.stretch.Form.{Form}
-use Rattle.prepare.specs.declared.stretch.Form.TheVariants as form
+use Rattle.prepare.specs.declared.stretch.StretchForm.{StretchForm}
+use Rattle.prepare.specs.declared.stretch.StretchForm.TheVariants as form
 use Rattle.prepare.specs.Standing.{Standing}
 use Rattle.prepare.specs.Marker.{Marker}
 use Rattle.prepare.specs.Markers.{marker}
@@ -167,7 +167,7 @@ coded_feeds (suc fuel) fresh (b ∷ q) =
     ∙ ap (λ (m : ℕ). feeds front + m) (coded_feeds fuel (fresh_from fresh front) (drop n text))
     ∙ sym (feeds-append front (drop n text)) ∙ ap feeds (take-append-drop n text)
 
-shown_feeds : (f : Form) (t : List ℕ) → feeds (shown f t) ≡ feeds t
+shown_feeds : (f : StretchForm) (t : List ℕ) → feeds (shown f t) ≡ feeds t
 shown_feeds form.Kept t = refl
 shown_feeds form.Joined t =
     let a = feeds-append (unbroken false t) (filter is_line_feed t) in

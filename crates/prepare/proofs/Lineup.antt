@@ -8,8 +8,8 @@ use Rattle.promela_text.specs.Tokens.{lexeme, IsCut, fresh_from, is_fresh, line_
 use Rattle.pml_lex.proofs.Places.{token_place}
 use Rattle.pml_lex.proofs.Steps.{fresh_from-append}
 use Rattle.pml_lex.proofs.Wholes.{Divides, from_whole}
-use Rattle.prepare.specs.declared.changes.Head.{Head}
-use Rattle.prepare.specs.declared.changes.Head.TheVariants.{Outside}
+use Rattle.prepare.specs.declared.changes.PhraseHead.{PhraseHead}
+use Rattle.prepare.specs.declared.changes.PhraseHead.TheVariants.{Outside}
 use Rattle.prepare.specs.declared.context.Context.{Context}
 use Rattle.prepare.specs.Roles.{role}
 use Rattle.prepare.specs.Contexts.{behind, start}
@@ -17,6 +17,7 @@ use Rattle.prepare.specs.Written.{Written}
 use Rattle.prepare.specs.Stretches.{lexeme_at, stretch, on_lexeme, stretches_by, stretches}
 use Rattle.prepare.specs.Spelling.{spelled}
 use Rattle.prepare.specs.Sizes.{Declared, declared}
+use Rattle.prepare.specs.Changed.{changed}
 use Rattle.prepare.specs.Changes.{change_of, head_behind, exchanges_by, exchanges, shown, respelled_one}
 use Rattle.prepare.specs.Laws.{Standing, source, line_from, standing, written_from, shown_from, has_tokens_alone}
 use Rattle.prepare.proofs.Turning.{at_lexeme}
@@ -108,7 +109,7 @@ follow (suc fuel) (q ∷ ps) n fresh p gap before (b ∷ r) short fresh_is line 
 lined_is : (text : List ℕ) (ts : List Word) → IsCut text ts → lined_from 1 (stretches text) ≡ standing ts
 lined_is text ts h = follow (length text) h.lexemes 1 true start [] [] text (omega arith) refl refl (from_whole h.lexemes text h.divides) ∙ ap standing (sym h.are_words)
 
-one_line : (ds : List Declared) (h : Head) (t : Written) (ts : List Written) (n : ℕ) → line_from n (respelled_one (record { gap = t.gap; token = t.token; change = change_of ds h t ts })) ≡ line_from n (source t)
+one_line : (ds : List Declared) (h : PhraseHead) (t : Written) (ts : List Written) (n : ℕ) → line_from n (respelled_one (changed t (change_of ds h t ts))) ≡ line_from n (source t)
 one_line ds h t ts n =
     let c = change_of ds h t ts in
     let a = feeds-append t.gap (shown c t.token) in
@@ -117,7 +118,7 @@ one_line ds h t ts n =
     omega arith
 
 -- what becomes of stretches stands on their lines
-shown_is : (ds : List Declared) (h : Head) (ts : List Written) (n : ℕ) → shown_from n (exchanges_by ds h ts) ≡ lined_from n ts
+shown_is : (ds : List Declared) (h : PhraseHead) (ts : List Written) (n : ℕ) → shown_from n (exchanges_by ds h ts) ≡ lined_from n ts
 shown_is ds h [] n = refl
 shown_is ds h (t ∷ []) n = refl
 shown_is ds h (t ∷ u ∷ us) n =

@@ -17,12 +17,12 @@ use Rattle.promela_text.specs.Tokens.{lexeme, has_left_out, IsCut, is_line_feed,
 use Rattle.pml_lex.proofs.Places.{token_place}
 use Rattle.pml_lex.proofs.Steps.{fresh_from-append}
 use Rattle.pml_lex.proofs.Wholes.{Divides, from_whole}
-use Rattle.prepare.specs.declared.roles.Role.{Role}
-use Rattle.prepare.specs.declared.roles.Role.TheVariants as as_role
-use Rattle.prepare.specs.declared.context.Block.{Block}
-use Rattle.prepare.specs.declared.context.Block.TheVariants.{Outside}
+use Rattle.prepare.specs.declared.roles.TokenRole.{TokenRole}
+use Rattle.prepare.specs.declared.roles.TokenRole.TheVariants as as_role
+use Rattle.prepare.specs.declared.context.BlankedBlock.{BlankedBlock}
+use Rattle.prepare.specs.declared.context.BlankedBlock.TheVariants.{Outside}
 use Rattle.prepare.specs.declared.context.Context.{Context}
-use Rattle.prepare.specs.declared.stretch.Form.TheVariants as form
+use Rattle.prepare.specs.declared.stretch.StretchForm.TheVariants as form
 use Rattle.prepare.specs.Roles.{is_block_word, role}
 use Rattle.prepare.specs.Contexts.{is_head_word, is_blanked, behind_outside, block_behind, behind, start}
 use Rattle.prepare.specs.Stretches.{form_outside, stretch, on_lexeme, stretches_by, stretches}
@@ -63,7 +63,7 @@ not_true false h = refl
 pub heads_none : (f : Bool) (t : List ℕ) (k : Kind) → lexeme f t ≡ Some (Token k) → same_kind k LeftOut ≡ false → is_head_word (role k t) ≡ false
 heads_none f t k is kept = not_true (is_head_word (role k t)) (λ h. no_word f t k is kept (head_is_word k t h))
 
-pub stays_outside_by : (r : Role) → is_head_word r ≡ false → behind_outside r ≡ Outside
+pub stays_outside_by : (r : TokenRole) → is_head_word r ≡ false → behind_outside r ≡ Outside
 stays_outside_by as_role.Heads h = absurd (false≢true (sym h))
 stays_outside_by _ h = refl
 
@@ -75,7 +75,7 @@ pub no_feed : (t : List ℕ) → count_by is_line_feed t ≡ 0 → list_any is_l
 no_feed [] h = refl
 no_feed (b ∷ q) h = no_feed_by (is_line_feed b) (count_by is_line_feed q) (list_any is_line_feed q) (omega arith ∙ sym (sum_by-append (λ x. cond (is_line_feed x) 1 0) (b ∷ []) q) ∙ h) (no_feed q)
 
-pub form_stays : (r : Role) (t : List ℕ) → list_any is_line_feed t ≡ false → stays (form_outside r) t ≡ true
+pub form_stays : (r : TokenRole) (t : List ℕ) → list_any is_line_feed t ≡ false → stays (form_outside r) t ≡ true
 form_stays as_role.Quotes t h = ap not h
 form_stays _ t h = refl
 
@@ -86,7 +86,7 @@ both false b h g = h
 stretch_plain : (p : Context) (k : Kind) (gap t : List ℕ) (f : Bool) → p.block ≡ Outside → lexeme f t ≡ Some (Token k) → same_kind k LeftOut ≡ false → is_nothing (stretch p k gap t).supply ≡ true → is_plain (stretch p k gap t) ≡ true
 unfolding stretch
 stretch_plain p k gap t f outside is kept nothing =
-    let blanked : is_blanked p.block (role k t) ≡ false = ap (λ (b : Block). is_blanked b (role k t)) outside ∙ heads_none f t k is kept in
+    let blanked : is_blanked p.block (role k t) ≡ false = ap (λ (b : BlankedBlock). is_blanked b (role k t)) outside ∙ heads_none f t k is kept in
     both (is_nothing (stretch p k gap t).supply) _ nothing
     (ap (λ (b : Bool). stays (cond b form.Blanked (form_outside (role k t))) t) blanked ∙ form_stays (role k t) t (no_feed t (token_place f t k is).0))
 
@@ -126,7 +126,7 @@ on_kind fuel p gap before rest q ps (Token k) h short front spells outside divid
     let is : lexeme (is_fresh before) t ≡ Some (Token k) = ap (lexeme (is_fresh before)) front ∙ spells in
     let stale : false ≡ is_fresh (before ++ q) = sym (token_place (is_fresh before) q k spells).1 ∙ sym (fresh_from-append true before q) in
     let more = stretches_by fuel false (behind p (role k t)) [] (drop (length q) rest) in
-    let out : (behind p (role k t)).block ≡ Outside = ap (λ (b : Block). block_behind b (role k t)) outside ∙ stays_outside_by (role k t) (heads_none (is_fresh before) t k is here) in
+    let out : (behind p (role k t)).block ≡ Outside = ap (λ (b : BlankedBlock). block_behind b (role k t)) outside ∙ stays_outside_by (role k t) (heads_none (is_fresh before) t k is here) in
     both (is_plain (stretch p k gap t)) (list_all is_plain more)
     (stretch_plain p k gap t (is_fresh before) outside is here (and_left (is_nothing (stretch p k gap t).supply) (is_unsupplied more) nothing))
     (h false (behind p (role k t)) [] (before ++ q) (drop (length q) rest) short stale out divides (or_right (same_kind k LeftOut) (has_left_out (words (before ++ q) ps)) kept) (and_right (is_nothing (stretch p k gap t).supply) (is_unsupplied more) nothing))

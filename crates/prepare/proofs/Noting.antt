@@ -2,7 +2,7 @@
 use Rattle.std.proofs.Common.{◌≡◌, ℕ, ◌<◌, ◌-◌, Bool, true, false, cond, List, [], ◌∷◌, ◌++◌, Option, Some, length, get_or, take, drop, take_all, refl, sym, ap, ◌∙◌, arith}
 use Rattle.std.specs.Str.{bytes_eq}
 use Rattle.std.proofs.lemmas.Slice.Eq.{bytes_eq-Decides}
-use Rattle.prepare.specs.declared.sizes.Reading.{Reading}
+use Rattle.prepare.specs.declared.sizes.DeclarationReading.{DeclarationReading}
 use Rattle.prepare.specs.Written.{Written}
 use Rattle.prepare.specs.Sizes.{Declared, declares, behind, size_behind, declared_at, declared_by, noted, joined, agreed_from}
 use Rattle.prepare.specs.Found.{Numbers, size_in}
@@ -25,7 +25,7 @@ named : List ℕ → ℕ → Declared
 named name size = record { name = name; size = size }
 
 -- a stretch that declares a name
-pub noted_one : (r : Reading) (t : Written) (back : List Written) (n : List ℕ) (o : Option ℕ) (name : List ℕ) (size : ℕ) → name ≡ t.token → size ≡ size_behind r back → declares r t.kind ≡ true
+pub noted_one : (r : DeclarationReading) (t : Written) (back : List Written) (n : List ℕ) (o : Option ℕ) (name : List ℕ) (size : ℕ) → name ≡ t.token → size ≡ size_behind r back → declares r t.kind ≡ true
     → noted n o (record { name = name; size = size }) ≡ agreed_from n o (declared_at r t back)
 unfolding named
 noted_one r t back n o name size e f d =
@@ -39,8 +39,8 @@ by_first (x ∷ xs) t h e =
     ap (λ (ys : List Written). x ∷ ys) (sym (take_all n xs (omega arith))) ∙ ap (λ (y : Written). y ∷ take n xs) (sym e)
 
 -- a stretch more
-pub one_stretch : (n : List ℕ) (a o o' : Option ℕ) (r r' : Reading) (xs back : List Written) (t : Written) → xs ≡ t ∷ back → r' ≡ behind r t.kind t.token → o' ≡ agreed_from n o (declared_at r t back)
+pub one_stretch : (n : List ℕ) (a o o' : Option ℕ) (r r' : DeclarationReading) (xs back : List Written) (t : Written) → xs ≡ t ∷ back → r' ≡ behind r t.kind t.token → o' ≡ agreed_from n o (declared_at r t back)
     → agreed_from n o (declared_by r xs) ≡ a → agreed_from n o' (declared_by r' back) ≡ a
 one_stretch n a o o' r r' xs back t e f g h =
-    ap (λ (x : Reading). agreed_from n o' (declared_by x back)) f ∙ ap (λ (x : Option ℕ). agreed_from n x (declared_by (behind r t.kind t.token) back)) g
+    ap (λ (x : DeclarationReading). agreed_from n o' (declared_by x back)) f ∙ ap (λ (x : Option ℕ). agreed_from n x (declared_by (behind r t.kind t.token) back)) g
     ∙ from_append n o (declared_at r t back) (declared_by (behind r t.kind t.token) back) ∙ ap (λ (ts : List Written). agreed_from n o (declared_by r ts)) (sym e) ∙ h

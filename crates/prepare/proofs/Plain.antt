@@ -10,8 +10,8 @@ use Rattle.promela_text.specs.Tokens.{is_line_feed}
 use Rattle.prepare.specs.declared.context.Context.{Context}
 use Rattle.prepare.specs.declared.context.Supply.{Supply}
 use Rattle.prepare.specs.declared.context.Supply.TheVariants as supply
-use Rattle.prepare.specs.declared.stretch.Form.{Form}
-use Rattle.prepare.specs.declared.stretch.Form.TheVariants as form
+use Rattle.prepare.specs.declared.stretch.StretchForm.{StretchForm}
+use Rattle.prepare.specs.declared.stretch.StretchForm.TheVariants as form
 use Rattle.prepare.specs.Standing.{Standing}
 use Rattle.prepare.specs.Marker.{Marker}
 use Rattle.prepare.specs.Markers.{marker}
@@ -80,7 +80,7 @@ no_feeds : (t : List ℕ) → list_any is_line_feed t ≡ false → filter is_li
 no_feeds [] h = refl
 no_feeds (b ∷ q) h = ap (λ (x : Bool). cond x (b ∷ filter is_line_feed q) (filter is_line_feed q)) (or_left (is_line_feed b) (list_any is_line_feed q) h) ∙ no_feeds q (or_right (is_line_feed b) (list_any is_line_feed q) h)
 
-pub shown_stays : (f : Form) (t : List ℕ) → stays f t ≡ true → shown f t ≡ t
+pub shown_stays : (f : StretchForm) (t : List ℕ) → stays f t ≡ true → shown f t ≡ t
 shown_stays form.Kept t h = refl
 shown_stays form.Joined t h =
     let none : list_any is_line_feed t ≡ false = not_true (list_any is_line_feed t) h in

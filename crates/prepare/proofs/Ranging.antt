@@ -7,10 +7,10 @@ use Rattle.std.proofs.lemmas.Bool.Decides.{nat_tests}
 use Rattle.std.proofs.lemmas.List.Elements.{All-cons}
 use Rattle.pml_token.specs.declared.token.Kind.TheVariants as kind
 use Rattle.pml_token.specs.Word.{same_kind}
-use Rattle.prepare.specs.declared.changes.Head.{Head}
-use Rattle.prepare.specs.declared.changes.Head.TheVariants as head
-use Rattle.prepare.specs.declared.changes.Change.{Change}
-use Rattle.prepare.specs.declared.changes.Change.TheVariants as change
+use Rattle.prepare.specs.declared.changes.PhraseHead.{PhraseHead}
+use Rattle.prepare.specs.declared.changes.PhraseHead.TheVariants as head
+use Rattle.prepare.specs.declared.changes.Respelling.{Respelling}
+use Rattle.prepare.specs.declared.changes.Respelling.TheVariants as change
 use Rattle.prepare.specs.Written.{Written}
 use Rattle.prepare.specs.Sizes.{Declared, agreed_from, agreed, is_in}
 use Rattle.prepare.specs.Changes.{begins_with, last_of, last_element, colon, range, change_of, head_behind, exchanges_by}
@@ -73,11 +73,11 @@ element_by : (t : Bool) (o : Option ℕ) (last : ℕ) → cond t (last_of o) Non
 element_by true o last h = last_is o last h
 element_by false o last h = cc
 
-is_range : Change → Bool
+is_range : Respelling → Bool
 is_range (change.Range n) = true
 is_range _ = false
 
-no_range : (c : Change) (last : ℕ) → is_range c ≡ false → c ≡ change.Range last → ⊥
+no_range : (c : Respelling) (last : ℕ) → is_range c ≡ false → c ≡ change.Range last → ⊥
 unfolding is_range
 no_range c last e h = false≢true (sym e ∙ ap is_range h)
 
@@ -102,12 +102,12 @@ unfolding is_range
 range_is None last h = absurd (no_range change.Left last refl h)
 range_is (Some n) last h = ap (λ (m : ℕ). let o : Option ℕ = Some m in o) (ap number_of h)
   where
-    number_of : Change → ℕ
+    number_of : Respelling → ℕ
     number_of (change.Range n) = n
     number_of _ = 0
 
 -- a range is written in place of a name in whose declarations a size agrees
-change_is : (ds : List Declared) (h : Head) (t : Written) (ts : List Written) (last : ℕ) → change_of ds h t ts ≡ change.Range last → agreed t.token ds ≡ Some (suc last)
+change_is : (ds : List Declared) (h : PhraseHead) (t : Written) (ts : List Written) (last : ℕ) → change_of ds h t ts ≡ change.Range last → agreed t.token ds ≡ Some (suc last)
 unfolding is_range
 change_is ds head.Typed t ts last e = absurd (no_range _ last (subtype_by (same_kind t.kind kind.Colon) (begins_with kind.Name ts)) e)
 change_is ds head.Subtyped t ts last e = absurd (no_range _ last (blank_by (same_kind t.kind kind.Name)) e)
@@ -118,6 +118,6 @@ change_is ds head.Outside t ts last e = absurd (no_range _ last refl e)
 change_is ds head.For t ts last e = absurd (no_range _ last refl e)
 change_is ds head.Enters t ts last e = absurd (no_range _ last refl e)
 
-pub ranges_by : (ds : List Declared) (h : Head) (ts : List Written) → All (IsOfSize ds) (exchanges_by ds h ts)
+pub ranges_by : (ds : List Declared) (h : PhraseHead) (ts : List Written) → All (IsOfSize ds) (exchanges_by ds h ts)
 ranges_by ds h [] = λ k d lt. absurd (omega arith)
 ranges_by ds h (t ∷ ts) = All-cons (IsOfSize ds) _ (exchanges_by ds (head_behind h t.kind t.token) ts) (λ last e. agrees t.token last ds (change_is ds h t ts last e)) (ranges_by ds (head_behind h t.kind t.token) ts)

@@ -3,13 +3,13 @@ use Rattle.std.specs.Prelude.{◌≡◌, ◌<◌, ℕ, ◌-◌, Bool, true, fals
 use Rattle.std.specs.List.{list_all}
 use Rattle.pml_token.specs.declared.token.Kind.TheVariants.{OpenBrace, CloseBrace, Name}
 use Rattle.pml_token.specs.Word.{same_kind}
-use Rattle.prepare.specs.declared.stretch.Form.{Form}
-use Rattle.prepare.specs.declared.stretch.Form.TheVariants as form
+use Rattle.prepare.specs.declared.stretch.StretchForm.{StretchForm}
+use Rattle.prepare.specs.declared.stretch.StretchForm.TheVariants as form
 use Rattle.prepare.specs.Roles.{is_block_word}
 use Rattle.prepare.specs.Contexts.{deeper}
 use Rattle.prepare.specs.Written.{Written}
 
-abbrev pub is_blank_form : Form → Bool
+abbrev pub is_blank_form : StretchForm → Bool
 is_blank_form form.Blanked = true
 is_blank_form _ = false
 

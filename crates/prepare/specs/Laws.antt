@@ -7,15 +7,16 @@ use Rattle.pml_token.specs.Word.{same_kind, Word}
 use Rattle.promela_text.specs.Tokens.{is_line_feed, IsCut, has_left_out}
 use Rattle.prepare.specs.declared.context.Supply.{Supply}
 use Rattle.prepare.specs.declared.context.Supply.TheVariants as as_supply
-use Rattle.prepare.specs.declared.stretch.Form.{Form}
-use Rattle.prepare.specs.declared.stretch.Form.TheVariants as form
+use Rattle.prepare.specs.declared.stretch.StretchForm.{StretchForm}
+use Rattle.prepare.specs.declared.stretch.StretchForm.TheVariants as form
 use Rattle.prepare.specs.Written.{Written}
 use Rattle.prepare.specs.Stretches.{stretches}
 use Rattle.prepare.specs.Spelling.{unbroken, spelled}
 use Rattle.prepare.specs.Blocks.{is_blanked}
 use Rattle.prepare.specs.Numbering.{bare, numbered, has_marker}
 use Rattle.prepare.specs.Coding.{coded, has_character}
-use Rattle.prepare.specs.Exchange.{Exchange}
+use Rattle.prepare.specs.declared.changes.Respelling.{Respelling}
+use Rattle.prepare.specs.Changed.{Changed}
 use Rattle.prepare.specs.Changes.{exchanges, respelled_one, respelled, is_same}
 
 -- a text with its lines where its markers say, and with numbers in place of its character constants
@@ -38,13 +39,6 @@ prepared text = exchanged (separated text)
 abbrev pub has_change : List ℕ → Bool
 has_change text = not (list_all is_same (exchanges (stretches text)))
 
--- what an exchange has of the text
-abbrev pub own : Exchange → List ℕ
-own c = c.gap ++ c.token
-
-abbrev pub owns : List Exchange → List ℕ
-owns cs = flat_map own cs
-
 -- what a stretch has of the text: all but what is written
 abbrev pub source : Written → List ℕ
 source t = t.gap ++ t.token
@@ -61,7 +55,7 @@ abbrev pub is_unsupplied : List Written → Bool
 is_unsupplied ts = list_all (λ t. is_nothing t.supply) ts
 
 -- whether a token comes out as it is: no block, and no string over several lines
-abbrev pub stays : Form → List ℕ → Bool
+abbrev pub stays : StretchForm → List ℕ → Bool
 stays form.Kept t = true
 stays form.Joined t = not (list_any is_line_feed t)
 stays form.Blanked t = false
@@ -101,7 +95,7 @@ supplied as_supply.Nothing = []
 supplied as_supply.Separator = codes ";" ∷ []
 supplied as_supply.Skip = codes "skip" ∷ []
 
-abbrev pub kept : Form → List ℕ → List (List ℕ)
+abbrev pub kept : StretchForm → List ℕ → List (List ℕ)
 kept form.Kept t = t ∷ []
 kept form.Joined t = unbroken false t ∷ []
 kept form.Blanked t = []
@@ -125,7 +119,7 @@ written_from n (t ∷ []) = all_on n (supplied t.supply)
 written_from n (t ∷ u ∷ us) = all_on n (supplied t.supply) ++ (all_on (line_from n t.gap) (kept t.form t.token) ++ written_from (line_from n (source t)) (u ∷ us))
 
 -- the tokens of what becomes of a text, as they were before, each on the line where what becomes of it is written; the last has none
-abbrev pub shown_from : ℕ → List Exchange → List Standing
+abbrev pub shown_from : ℕ → List (Changed Respelling) → List Standing
 shown_from n [] = []
 shown_from n (c ∷ []) = []
 shown_from n (c ∷ d ∷ ds) = record { text = c.token; line = line_from n c.gap } ∷ shown_from (line_from n (respelled_one c)) (d ∷ ds)

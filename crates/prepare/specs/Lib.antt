@@ -3,9 +3,9 @@ pub mod Coding
 pub mod Roles
 pub mod Contexts
 pub mod Written
+pub mod Changed
 pub mod Stretches
 pub mod Spelling
-pub mod Exchange
 pub mod Sizes
 pub mod Changes
 pub mod Found

@@ -2,8 +2,9 @@
 use Rattle.std.specs.Prelude.{◌≡◌, ℕ, suc, Bool, true, List, All}
 use Rattle.std.specs.List.{list_any}
 use Rattle.std.specs.Str.{bytes_eq}
-use Rattle.prepare.specs.declared.changes.Change.TheVariants as change
-use Rattle.prepare.specs.Exchange.{Exchange}
+use Rattle.prepare.specs.declared.changes.Respelling.{Respelling}
+use Rattle.prepare.specs.declared.changes.Respelling.TheVariants as change
+use Rattle.prepare.specs.Changed.{Changed}
 use Rattle.prepare.specs.Sizes.{Declared}
 
 -- whether a name is declared
@@ -16,5 +17,5 @@ pub record HasSize (name : List ℕ) (size : ℕ) (ds : List Declared) : Type 0 
   pub all : All (λ d. bytes_eq d.name name ≡ true → d.size ≡ size) ds
 
 -- where a range is written in place of a name, that name has the size of the range
-abbrev pub IsOfSize : List Declared → Exchange → Type 0
+abbrev pub IsOfSize : List Declared → Changed Respelling → Type 0
 IsOfSize ds c = (last : ℕ) → c.change ≡ change.Range last → HasSize c.token (suc last) ds

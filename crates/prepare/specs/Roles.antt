@@ -5,15 +5,15 @@ use lib.Chars.{codes}
 use Rattle.pml_token.specs.declared.token.Kind.{Kind}
 use Rattle.pml_token.specs.declared.token.Kind.TheVariants as kind
 use Rattle.pml_token.specs.Word.{same_kind}
-use Rattle.prepare.specs.declared.roles.Role.{Role}
-use Rattle.prepare.specs.declared.roles.Role.TheVariants as as_role
+use Rattle.prepare.specs.declared.roles.TokenRole.{TokenRole}
+use Rattle.prepare.specs.declared.roles.TokenRole.TheVariants as as_role
 
 -- a word that heads a block which only verification needs
 abbrev pub is_block_word : List ℕ → Bool
 is_block_word t = bytes_eq t (codes "never") || (bytes_eq t (codes "ltl") || (bytes_eq t (codes "trace") || bytes_eq t (codes "notrace")))
 
 -- signs and words with roles of their own
-abbrev pub bracket : Kind → Role
+abbrev pub bracket : Kind → TokenRole
 bracket kind.OpenBrace = as_role.Opens
 bracket kind.CloseBrace = as_role.Closes
 bracket kind.OpenParen = as_role.Enters
@@ -83,7 +83,7 @@ asks kind.Bang = true
 asks _ = false
 
 -- what a token is, by its kind and its bytes
-abbrev pub role : Kind → List ℕ → Role
+abbrev pub role : Kind → List ℕ → TokenRole
 role x t =
     if is_block_word t then as_role.Heads
     else (if is_both x then as_role.Both
@@ -92,7 +92,7 @@ role x t =
     else bracket x)))
 
 -- whether a token may begin a statement
-abbrev pub begins : Role → Bool
+abbrev pub begins : TokenRole → Bool
 begins as_role.Opens = true
 begins as_role.Enters = true
 begins as_role.For = true

@@ -8,7 +8,7 @@ use Rattle.pml_token.specs.Word.{same_kind}
 use Rattle.prepare.specs.declared.markers.TheConstants.{MOST_LINE}
 use Rattle.prepare.specs.declared.sizes.Lead.{Lead}
 use Rattle.prepare.specs.declared.sizes.Lead.TheVariants as lead
-use Rattle.prepare.specs.declared.sizes.Reading.{Reading}
+use Rattle.prepare.specs.declared.sizes.DeclarationReading.{DeclarationReading}
 use Rattle.prepare.specs.Markers.{number}
 use Rattle.prepare.specs.Contexts.{deeper}
 use Rattle.prepare.specs.Written.{Written}
@@ -45,7 +45,7 @@ is_led lead.Comma goes_on = goes_on
 is_led lead.Other goes_on = false
 
 -- whether a token is a name that is declared: behind a type or in a row of names, and no field, or in the header of an inline
-abbrev pub declares : Reading → Kind → Bool
+abbrev pub declares : DeclarationReading → Kind → Bool
 declares r k = same_kind k kind.Name && (r.is_header || (not r.is_fields && is_led r.lead (r.goes_on && r.depth == 0)))
 
 abbrev pub is_opening : Kind → Bool
@@ -67,18 +67,18 @@ is_separator kind.DoubleColon = true
 is_separator _ = false
 
 -- whether a token ends a declaration: a separator, or a bracket that was open before it, and not one within its own brackets
-abbrev pub ends : Reading → Kind → Bool
+abbrev pub ends : DeclarationReading → Kind → Bool
 ends r k = r.depth == 0 && (is_separator k || is_closing k)
 
 abbrev pub depth_behind : ℕ → Kind → ℕ
 depth_behind n k = if is_opening k then deeper n else (if is_closing k then n - 1 else n)
 
 -- whether a `}` ends a typedef
-abbrev pub ends_fields : Reading → Kind → Bool
+abbrev pub ends_fields : DeclarationReading → Kind → Bool
 ends_fields r k = same_kind k kind.CloseBrace && nat_lt r.depth 2
 
 -- behind a token
-abbrev pub behind : Reading → Kind → List ℕ → Reading
+abbrev pub behind : DeclarationReading → Kind → List ℕ → DeclarationReading
 behind r k t =
     let is_typedef = same_kind k kind.Typedef in
     record {
@@ -89,7 +89,7 @@ behind r k t =
       is_header = same_kind k kind.Inline || (r.is_header && not (same_kind k kind.CloseParen));
     }
 
-abbrev pub start : Reading
+abbrev pub start : DeclarationReading
 start = record { lead = lead.Other; goes_on = false; depth = 0; is_fields = false; is_header = false }
 
 -- the number of elements that digits name; 0 where there are more than a text has bytes
@@ -102,7 +102,7 @@ size_at (o ∷ n ∷ c ∷ ts) = if same_kind o.kind kind.OpenBracket && (same_k
 size_at _ = 0
 
 -- the size that is declared before these stretches: parameters of inlines have none
-abbrev pub size_behind : Reading → List Written → ℕ
+abbrev pub size_behind : DeclarationReading → List Written → ℕ
 size_behind r ts = if r.is_header then 0 else size_at ts
 
 -- a name that is declared, and its size, or 0 where it has none
@@ -111,11 +111,11 @@ pub record Declared : Type 0 where
   pub size : ℕ
 
 -- what one stretch declares, where `ts` are those behind it
-abbrev pub declared_at : Reading → Written → List Written → List Declared
+abbrev pub declared_at : DeclarationReading → Written → List Written → List Declared
 declared_at r t ts = if declares r t.kind then record { name = t.token; size = size_behind r ts } ∷ [] else []
 
 -- all that stretches declare
-abbrev pub declared_by : Reading → List Written → List Declared
+abbrev pub declared_by : DeclarationReading → List Written → List Declared
 declared_by r [] = []
 declared_by r (t ∷ ts) = declared_at r t ts ++ declared_by (behind r t.kind t.token) ts
 

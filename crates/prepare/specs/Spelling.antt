@@ -7,8 +7,8 @@ use Rattle.prepare.specs.declared.TheConstants.{FORM_FEED}
 use Rattle.promela_text.specs.Tokens.{is_line_feed}
 use Rattle.prepare.specs.declared.context.Supply.{Supply}
 use Rattle.prepare.specs.declared.context.Supply.TheVariants as as_supply
-use Rattle.prepare.specs.declared.stretch.Form.{Form}
-use Rattle.prepare.specs.declared.stretch.Form.TheVariants as form
+use Rattle.prepare.specs.declared.stretch.StretchForm.{StretchForm}
+use Rattle.prepare.specs.declared.stretch.StretchForm.TheVariants as form
 use Rattle.prepare.specs.Contexts.{written}
 use Rattle.prepare.specs.Written.{Written}
 
@@ -42,7 +42,7 @@ abbrev pub joined : List ℕ → List ℕ
 joined t = unbroken false t ++ filter is_line_feed t
 
 -- what is written of a token
-abbrev pub shown : Form → List ℕ → List ℕ
+abbrev pub shown : StretchForm → List ℕ → List ℕ
 shown form.Kept t = t
 shown form.Joined t = joined t
 shown form.Blanked t = map blank t

@@ -9,17 +9,17 @@ use Rattle.pml_token.specs.declared.token.Kind.{Kind}
 use Rattle.pml_token.specs.declared.token.Kind.TheVariants as kind
 use Rattle.pml_lex.specs.Scanning.{Found, next}
 use Rattle.promela_text.specs.Tokens.{fresh_from}
-use Rattle.prepare.specs.declared.roles.Role.{Role}
-use Rattle.prepare.specs.declared.roles.Role.TheVariants as as_role
-use Rattle.prepare.specs.declared.context.Last.{Last}
-use Rattle.prepare.specs.declared.context.Block.{Block}
-use Rattle.prepare.specs.declared.context.Block.TheVariants as block
+use Rattle.prepare.specs.declared.roles.TokenRole.{TokenRole}
+use Rattle.prepare.specs.declared.roles.TokenRole.TheVariants as as_role
+use Rattle.prepare.specs.declared.context.LastToken.{LastToken}
+use Rattle.prepare.specs.declared.context.BlankedBlock.{BlankedBlock}
+use Rattle.prepare.specs.declared.context.BlankedBlock.TheVariants as block
 use Rattle.prepare.specs.declared.context.Context.{Context}
 use Rattle.prepare.specs.declared.context.Supply.TheVariants as as_supply
-use Rattle.prepare.specs.declared.stretch.Form.{Form}
-use Rattle.prepare.specs.declared.stretch.Form.TheVariants as form
-use Rattle.prepare.specs.declared.stretch.Remark.{Remark}
-use Rattle.prepare.specs.declared.stretch.Remark.TheVariants as remark
+use Rattle.prepare.specs.declared.stretch.StretchForm.{StretchForm}
+use Rattle.prepare.specs.declared.stretch.StretchForm.TheVariants as form
+use Rattle.prepare.specs.declared.stretch.StretchRemark.{StretchRemark}
+use Rattle.prepare.specs.declared.stretch.StretchRemark.TheVariants as remark
 use Rattle.prepare.specs.Roles.{role}
 use Rattle.prepare.specs.Contexts.{is_assigned, is_blanked, behind, supply, start}
 use Rattle.prepare.specs.Written.{Written}
@@ -57,33 +57,33 @@ found_or other (Some x) = x
 unfoldable pub lexeme_at : Bool → List ℕ → ℕ × Lexeme
 lexeme_at fresh text = found_or (broken text) (next fresh text)
 
-abbrev pub form_outside : Role → Form
+abbrev pub form_outside : TokenRole → StretchForm
 form_outside as_role.Quotes = form.Joined
 form_outside _ = form.Kept
 
 -- how a token is written
-abbrev pub form_of : Block → Role → Form
+abbrev pub form_of : BlankedBlock → TokenRole → StretchForm
 form_of b r = if is_blanked b r then form.Blanked else form_outside r
 
-abbrev pub head_remark : Role → Remark
+abbrev pub head_remark : TokenRole → StretchRemark
 head_remark as_role.Heads = remark.BlockBegins
 head_remark _ = remark.Nothing
 
-abbrev pub inner_remark : ℕ → Role → Remark
+abbrev pub inner_remark : ℕ → TokenRole → StretchRemark
 inner_remark n as_role.Closes = if nat_lt 1 n then remark.Nothing else remark.BlockEnds
 inner_remark n _ = remark.Nothing
 
-abbrev pub block_remark : Block → Role → Remark
+abbrev pub block_remark : BlankedBlock → TokenRole → StretchRemark
 block_remark (block.Within n) r = inner_remark n r
 block_remark _ r = head_remark r
 
-abbrev pub code_remark : Last → Role → Remark
+abbrev pub code_remark : LastToken → TokenRole → StretchRemark
 code_remark l as_role.LeftOut = remark.LeftOut
 code_remark l as_role.Opens = if is_assigned l then remark.List else remark.Nothing
 code_remark l _ = remark.Nothing
 
 -- what is to be said of a token
-abbrev pub remark_of : Context → Role → Remark
+abbrev pub remark_of : Context → TokenRole → StretchRemark
 remark_of p r = if is_blanked p.block r then block_remark p.block r else code_remark p.code.last r
 
 -- a token of this kind behind a gap

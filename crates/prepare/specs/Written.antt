@@ -2,13 +2,13 @@
 use Rattle.std.specs.Prelude.{ℕ, List}
 use Rattle.pml_token.specs.declared.token.Kind.{Kind}
 use Rattle.prepare.specs.declared.context.Supply.{Supply}
-use Rattle.prepare.specs.declared.stretch.Form.{Form}
-use Rattle.prepare.specs.declared.stretch.Remark.{Remark}
+use Rattle.prepare.specs.declared.stretch.StretchForm.{StretchForm}
+use Rattle.prepare.specs.declared.stretch.StretchRemark.{StretchRemark}
 
 pub record Written : Type 0 where
   pub supply : Supply
   pub gap : List ℕ
   pub token : List ℕ
   pub kind : Kind
-  pub form : Form
-  pub remark : Remark
+  pub form : StretchForm
+  pub remark : StretchRemark

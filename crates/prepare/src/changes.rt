@@ -6,18 +6,18 @@ ghost use Rattle.prepare.specs.Sizes.{declared, agreed};
 ghost use Rattle.prepare.specs.Changes as changes;
 ghost use Rattle.prepare.specs.Found.{AreSizes};
 
+use crate::changed::Changed;
 use crate::markers::MOST_LINE;
-use crate::sizes::{Sizes, is_in, sizes_of};
+use crate::sizes::{ArraySizes, is_in, sizes_of};
 use crate::spelling::{add_blanks, add_feeds};
 use crate::stretch::Stretch;
 use itoa::Buffer;
 use pml_token::token::{Kind, same_kind};
 use std::alloc::{AllocError, Global};
-use std::marker::Model;
 
 /// What the tokens before one are the beginning of.
 #[derive(Clone, Copy)]
-pub enum Head {
+pub enum PhraseHead {
     Outside,
     /// `mtype`.
     Typed,
@@ -35,7 +35,7 @@ pub enum Head {
 
 /// What becomes of a token.
 #[derive(Clone, Copy)]
-pub enum Change {
+pub enum Respelling {
     /// It stays.
     Kept,
     /// It stays, and this profile has nothing for it.
@@ -48,83 +48,44 @@ pub enum Change {
     Range(u32),
 }
 
-/// A token, with what becomes of it.
-#[derive(Drop)]
-pub struct Exchange<'t> {
-    gap: &'t [u8],
-    token: &'t [u8],
-    change: Change,
-}
-
-impl<'t> Model for Exchange<'t> {
-    ghost use Rattle.prepare.specs.Exchange.{Exchange as Seen};
-
-    ghost Value = { Seen };
-
-    ghost view = { λ c. record { gap = c.gap.now; token = c.token.now; change = c.change } };
-}
-
-impl<'t> Exchange<'t> {
-    /// The blanks, comments and markers before the token.
-    pub fn gap(&self) -> &'t [u8]
-        ensures { result.now ≡ self.now.gap }
-    {
-        self.gap
-    }
-
-    /// The token.
-    pub fn token(&self) -> &'t [u8]
-        ensures { result.now ≡ self.now.token }
-    {
-        self.token
-    }
-
-    /// What becomes of it.
-    pub fn change(&self) -> Change
-        ensures { result ≡ self.now.change }
-    {
-        self.change
-    }
-}
-
-fn begun(kind: Kind) -> Head
+fn begun(kind: Kind) -> PhraseHead
     ensures { result ≡ changes.begun kind }
 {
     match kind {
-        Kind::Mtype => Head::Typed,
-        Kind::For => Head::For,
-        _ => Head::Outside,
+        Kind::Mtype => PhraseHead::Typed,
+        Kind::For => PhraseHead::For,
+        _ => PhraseHead::Outside,
     }
 }
 
-fn head_behind(head: Head, kind: Kind, token: &[u8]) -> Head
+fn head_behind(head: PhraseHead, kind: Kind, token: &[u8]) -> PhraseHead
     ensures { result ≡ changes.head_behind head kind token.now }
 {
     match head {
-        Head::Typed => {
+        PhraseHead::Typed => {
             if same_kind(kind, Kind::Colon) {
-                Head::Subtyped
+                PhraseHead::Subtyped
             } else {
                 begun(kind)
             }
         }
-        Head::For => {
+        PhraseHead::For => {
             if same_kind(kind, Kind::OpenParen) {
-                Head::Enters
+                PhraseHead::Enters
             } else {
                 begun(kind)
             }
         }
-        Head::Enters => {
+        PhraseHead::Enters => {
             if same_kind(kind, Kind::Name) {
-                Head::Counts
+                PhraseHead::Counts
             } else {
                 begun(kind)
             }
         }
-        Head::Counts => {
+        PhraseHead::Counts => {
             if is_in(kind, token) {
-                Head::In
+                PhraseHead::In
             } else {
                 begun(kind)
             }
@@ -152,7 +113,11 @@ fn last_of(elements: Option<u32>) -> Option<u32>
 }
 
 /// The number of the last element of an array that stands at the front of some of the stretches.
-fn last_element(sizes: &Sizes<'_>, all: &[Stretch<'_>], stretches: &[Stretch<'_>]) -> Option<u32>
+fn last_element(
+    sizes: &ArraySizes<'_>,
+    all: &[Stretch<'_>],
+    stretches: &[Stretch<'_>],
+) -> Option<u32>
     requires sizes { AreSizes sizes.now.numbers all.now }
     ensures { result ≡ changes.last_element (declared all.now) stretches.now }
 {
@@ -168,69 +133,69 @@ fn last_element(sizes: &Sizes<'_>, all: &[Stretch<'_>], stretches: &[Stretch<'_>
     }
 }
 
-fn colon(is_range: bool) -> Change
+fn colon(is_range: bool) -> Respelling
     ensures { result ≡ changes.colon is_range }
 {
     if is_range {
-        Change::Colon
+        Respelling::Colon
     } else {
-        Change::Kept
+        Respelling::Kept
     }
 }
 
-fn range(last: Option<u32>) -> Change
+fn range(last: Option<u32>) -> Respelling
     ensures { result ≡ changes.range last }
 {
     match last {
-        Some(last) => Change::Range(last),
-        None => Change::Left,
+        Some(last) => Respelling::Range(last),
+        None => Respelling::Left,
     }
 }
 
 /// What becomes of the colon behind `mtype`, where these stretches stand behind it.
-fn colon_of_subtype(stretches: &[Stretch<'_>]) -> Change
+fn colon_of_subtype(stretches: &[Stretch<'_>]) -> Respelling
     ensures { result ≡ changes.colon_of_subtype stretches.now }
 {
     if begins_with(Kind::Name, stretches) {
-        Change::Blanked
+        Respelling::Blanked
     } else {
-        Change::Left
+        Respelling::Left
     }
 }
 
 /// What becomes of the token at the front of some of the stretches.
 fn change_at(
-    sizes: &Sizes<'_>,
+    sizes: &ArraySizes<'_>,
     all: &[Stretch<'_>],
-    head: Head,
+    head: PhraseHead,
     stretches: &[Stretch<'_>],
-) -> Change
+) -> Respelling
     requires sizes { AreSizes sizes.now.numbers all.now }
     ensures { result ≡ changes.change_at (declared all.now) head stretches.now }
 {
     let [stretch, back @ ..] = stretches else {
-        return Change::Kept
+        return Respelling::Kept
     };
     match head {
-        Head::Typed => {
+        PhraseHead::Typed => {
             if same_kind(stretch.kind(), Kind::Colon) {
                 colon_of_subtype(back)
             } else {
-                Change::Kept
+                Respelling::Kept
             }
         }
-        Head::Subtyped => {
+        PhraseHead::Subtyped => {
             if same_kind(stretch.kind(), Kind::Name) {
-                Change::Blanked
+                Respelling::Blanked
             } else {
-                Change::Kept
+                Respelling::Kept
             }
         }
-        Head::Counts => colon(
+        PhraseHead::Counts => colon(
             is_in(stretch.kind(), stretch.token()) && last_element(sizes, all, back).is_some(),
         ),
-        Head::In => range(last_element(sizes, all, stretches)),
-        _ => Change::Kept,
+        PhraseHead::In => range(last_element(sizes, all, stretches)),
+        _ => Respelling::Kept,
     }
 }
 
@@ -241,19 +206,15 @@ fn change_at(
 pub fn exchanges<'t>(
     alloc: Global,
     stretches: &[Stretch<'t>],
-) -> Result<Vec<Exchange<'t>>, AllocError>
+) -> Result<Vec<Changed<'t, Respelling>>, AllocError>
     ensures { IfOk result (λ v. v.items ≡ changes.exchanges stretches.now) }
 {
     let sizes = sizes_of(alloc, stretches)?;
     let mut out = Vec::new(alloc);
-    let mut head = Head::Outside;
+    let mut head = PhraseHead::Outside;
     let mut rest = stretches;
     while let [stretch, back @ ..] = rest {
-        out.push(Exchange {
-            gap: stretch.gap(),
-            token: stretch.token(),
-            change: change_at(&sizes, stretches, head, rest),
-        })?;
+        out.push(Changed::new(stretch, change_at(&sizes, stretches, head, rest)))?;
         head = head_behind(head, stretch.kind(), stretch.token());
         rest = back;
     }
@@ -268,24 +229,24 @@ fn add_numbers(out: &mut Vec<u8>, last: u32) -> Result<(), AllocError>
     out.extend_from_slice(digits.format(last.min(MOST_LINE)).as_bytes())
 }
 
-fn add_shown(out: &mut Vec<u8>, change: Change, token: &[u8]) -> Result<(), AllocError>
+fn add_shown(out: &mut Vec<u8>, change: Respelling, token: &[u8]) -> Result<(), AllocError>
     ensures { OnOk result (out.new.items ≡ out.old.items ++ changes.shown change token.now) }
 {
     match change {
-        Change::Kept | Change::Left => out.extend_from_slice(token),
-        Change::Blanked => add_blanks(out, token),
-        Change::Colon => {
+        Respelling::Kept | Respelling::Left => out.extend_from_slice(token),
+        Respelling::Blanked => add_blanks(out, token),
+        Respelling::Colon => {
             out.push(b':')?;
             add_feeds(out, token)
         }
-        Change::Range(last) => {
+        Respelling::Range(last) => {
             add_numbers(out, last)?;
             add_feeds(out, token)
         }
     }
 }
 
-fn add_exchange(out: &mut Vec<u8>, exchange: &Exchange<'_>) -> Result<(), AllocError>
+fn add_exchange(out: &mut Vec<u8>, exchange: &Changed<'_, Respelling>) -> Result<(), AllocError>
     ensures { OnOk result (out.new.items ≡ out.old.items ++ changes.respelled_one exchange.now) }
 {
     out.extend_from_slice(exchange.gap())?;
@@ -293,7 +254,7 @@ fn add_exchange(out: &mut Vec<u8>, exchange: &Exchange<'_>) -> Result<(), AllocE
 }
 
 /// What is written of all.
-pub fn respelled(alloc: Global, all: &[Exchange<'_>]) -> Result<Vec<u8>, AllocError>
+pub fn respelled(alloc: Global, all: &[Changed<'_, Respelling>]) -> Result<Vec<u8>, AllocError>
     ensures { IfOk result (λ v. v.items ≡ changes.respelled all.now) }
 {
     let mut out = Vec::new(alloc);

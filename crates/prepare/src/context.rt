@@ -3,14 +3,14 @@
 ghost use Rattle.std.specs.Prelude.{◌≡◌};
 ghost use Rattle.prepare.specs.Contexts as contexts;
 
-use crate::roles::{Role, begins};
+use crate::roles::{TokenRole, begins};
 
 /// How deep brackets are counted. What is deeper counts as so deep.
 pub const MOST_DEPTH: u32 = 1_000_000;
 
 /// What the last token of the code was.
 #[derive(Clone, Copy, PartialEq, Eq)]
-pub enum Last {
+pub enum LastToken {
     /// A token behind which a statement may end.
     Ended,
     /// A colon, as behind a label.
@@ -38,12 +38,12 @@ pub struct Code {
     pub is_fields: bool,
     /// Whether a `for` waits for its body.
     pub is_head: bool,
-    pub last: Last,
+    pub last: LastToken,
 }
 
 /// Whether a token stands in a block that is blanked.
 #[derive(Clone, Copy)]
-pub enum Block {
+pub enum BlankedBlock {
     Outside,
     /// Behind the word that heads one, and before its `{`.
     Ahead,
@@ -55,7 +55,7 @@ pub enum Block {
 #[derive(Clone, Copy)]
 pub struct Context {
     pub code: Code,
-    pub block: Block,
+    pub block: BlankedBlock,
 }
 
 /// What is written behind a token.
@@ -81,10 +81,10 @@ fn opened(code: Code) -> Code
     Code {
         braces: deeper(code.braces),
         brackets: code.brackets,
-        is_list: code.is_list || code.last == Last::Assigned,
+        is_list: code.is_list || code.last == LastToken::Assigned,
         is_fields: code.is_fields,
         is_head: false,
-        last: Last::Open,
+        last: LastToken::Open,
     }
 }
 
@@ -99,9 +99,9 @@ fn closed(code: Code) -> Code
         is_fields: code.is_fields && is_within,
         is_head: code.is_head,
         last: if code.is_fields && is_within {
-            Last::Ended
+            LastToken::Ended
         } else {
-            Last::Open
+            LastToken::Open
         },
     }
 }
@@ -111,7 +111,7 @@ fn entered(code: Code) -> Code
 {
     Code {
         brackets: deeper(code.brackets),
-        last: Last::Open,
+        last: LastToken::Open,
         ..code
     }
 }
@@ -120,9 +120,9 @@ fn left(code: Code) -> Code
     ensures { result ≡ contexts.left code }
 {
     let last = if code.is_head && code.brackets < 2 {
-        Last::Open
+        LastToken::Open
     } else {
-        Last::Ended
+        LastToken::Ended
     };
     Code {
         brackets: code.brackets.saturating_sub(1),
@@ -134,10 +134,10 @@ fn left(code: Code) -> Code
 fn assigned(code: Code) -> Code
     ensures { result ≡ contexts.assigned code }
 {
-    let last = if code.last == Last::Typed {
-        Last::Open
+    let last = if code.last == LastToken::Typed {
+        LastToken::Open
     } else {
-        Last::Assigned
+        LastToken::Assigned
     };
     Code { last, ..code }
 }
@@ -145,10 +145,10 @@ fn assigned(code: Code) -> Code
 fn labelled(code: Code) -> Code
     ensures { result ≡ contexts.labelled code }
 {
-    let last = if code.last == Last::Typed {
-        Last::Subtyped
+    let last = if code.last == LastToken::Typed {
+        LastToken::Subtyped
     } else {
-        Last::Labelled
+        LastToken::Labelled
     };
     Code { last, ..code }
 }
@@ -156,86 +156,89 @@ fn labelled(code: Code) -> Code
 fn named(code: Code) -> Code
     ensures { result ≡ contexts.named code }
 {
-    let last = if code.last == Last::Subtyped {
-        Last::Typed
+    let last = if code.last == LastToken::Subtyped {
+        LastToken::Typed
     } else {
-        Last::Ended
+        LastToken::Ended
     };
     Code { last, ..code }
 }
 
 /// What is known of the code behind a token.
-fn code_behind(code: Code, role: Role) -> Code
+fn code_behind(code: Code, role: TokenRole) -> Code
     ensures { result ≡ contexts.code_behind code role }
 {
     match role {
-        Role::Opens => opened(code),
-        Role::Closes => closed(code),
-        Role::Enters | Role::Indexes => entered(code),
-        Role::Leaves => left(code),
-        Role::Assigns => assigned(code),
-        Role::Labels => labelled(code),
-        Role::Typedef => Code {
+        TokenRole::Opens => opened(code),
+        TokenRole::Closes => closed(code),
+        TokenRole::Enters | TokenRole::Indexes => entered(code),
+        TokenRole::Leaves => left(code),
+        TokenRole::Assigns => assigned(code),
+        TokenRole::Labels => labelled(code),
+        TokenRole::Typedef => Code {
             is_fields: true,
-            last: Last::Open,
+            last: LastToken::Open,
             ..code
         },
-        Role::For => Code {
+        TokenRole::For => Code {
             is_head: true,
-            last: Last::Open,
+            last: LastToken::Open,
             ..code
         },
-        Role::Mtype => Code {
-            last: Last::Typed,
+        TokenRole::Mtype => Code {
+            last: LastToken::Typed,
             ..code
         },
-        Role::Names => named(code),
-        Role::Both | Role::Ends => Code {
-            last: Last::Ended,
+        TokenRole::Names => named(code),
+        TokenRole::Both | TokenRole::Ends => Code {
+            last: LastToken::Ended,
             ..code
         },
         _ => Code {
-            last: Last::Open,
+            last: LastToken::Open,
             ..code
         },
     }
 }
 
 /// Whether a token belongs to a block that is blanked.
-pub fn is_blanked(block: Block, role: Role) -> bool
+pub fn is_blanked(block: BlankedBlock, role: TokenRole) -> bool
     ensures { result ≡ contexts.is_blanked block role }
 {
     match block {
-        Block::Outside => matches!(role, Role::Heads),
-        Block::Ahead => matches!(role, Role::Heads | Role::Names | Role::Opens),
-        Block::Within(_) => true,
+        BlankedBlock::Outside => matches!(role, TokenRole::Heads),
+        BlankedBlock::Ahead => matches!(
+            role,
+            TokenRole::Heads | TokenRole::Names | TokenRole::Opens
+        ),
+        BlankedBlock::Within(_) => true,
     }
 }
 
 /// Where the text stands behind a token, as to blocks.
-fn block_behind(block: Block, role: Role) -> Block
+fn block_behind(block: BlankedBlock, role: TokenRole) -> BlankedBlock
     ensures { result ≡ contexts.block_behind block role }
 {
     match block {
-        Block::Outside => match role {
-            Role::Heads => Block::Ahead,
-            _ => Block::Outside,
+        BlankedBlock::Outside => match role {
+            TokenRole::Heads => BlankedBlock::Ahead,
+            _ => BlankedBlock::Outside,
         },
-        Block::Ahead => match role {
-            Role::Heads | Role::Names => Block::Ahead,
-            Role::Opens => Block::Within(1),
-            _ => Block::Outside,
+        BlankedBlock::Ahead => match role {
+            TokenRole::Heads | TokenRole::Names => BlankedBlock::Ahead,
+            TokenRole::Opens => BlankedBlock::Within(1),
+            _ => BlankedBlock::Outside,
         },
-        Block::Within(depth) => match role {
-            Role::Opens => Block::Within(deeper(depth)),
-            Role::Closes => {
+        BlankedBlock::Within(depth) => match role {
+            TokenRole::Opens => BlankedBlock::Within(deeper(depth)),
+            TokenRole::Closes => {
                 if depth > 1 {
-                    Block::Within(depth - 1)
+                    BlankedBlock::Within(depth - 1)
                 } else {
-                    Block::Outside
+                    BlankedBlock::Outside
                 }
             }
-            _ => Block::Within(depth),
+            _ => BlankedBlock::Within(depth),
         },
     }
 }
@@ -251,16 +254,16 @@ impl Context {
             is_list: false,
             is_fields: false,
             is_head: false,
-            last: Last::Open,
+            last: LastToken::Open,
         };
         Context {
             code,
-            block: Block::Outside,
+            block: BlankedBlock::Outside,
         }
     }
 
     /// What is known behind a token.
-    pub fn behind(self, role: Role) -> Context
+    pub fn behind(self, role: TokenRole) -> Context
         ensures { result ≡ contexts.behind self role }
     {
         let code = if is_blanked(self.block, role) {
@@ -283,15 +286,15 @@ fn has_statements(code: Code) -> bool
 }
 
 /// What is to be written between the last token and one of this role, where `is_over` says whether a line ends between them.
-pub fn supply_at(code: Code, is_over: bool, role: Role) -> Supply
+pub fn supply_at(code: Code, is_over: bool, role: TokenRole) -> Supply
     ensures { result ≡ contexts.supply code is_over role }
 {
     match code.last {
-        Last::Labelled => match role {
-            Role::Closes | Role::Parts => Supply::Skip,
+        LastToken::Labelled => match role {
+            TokenRole::Closes | TokenRole::Parts => Supply::Skip,
             _ => Supply::Nothing,
         },
-        Last::Ended => {
+        LastToken::Ended => {
             if is_over && (begins(role) && has_statements(code)) {
                 Supply::Separator
             } else {

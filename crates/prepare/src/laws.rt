@@ -18,7 +18,8 @@ ghost use Rattle.prepare.specs.Changes.{exchanges};
 ghost use Rattle.prepare.specs.Ranges.{IsOfSize};
 ghost use Rattle.prepare.specs.Blocks.{BlanksAreBlocks};
 ghost use Rattle.prepare.specs.Separators.{SeparatorsEndStatements, SkipsAreLabelled};
-ghost use Rattle.prepare.specs.Laws.{prepared, exchanged, has_change, HasNothingToMend, owns, sources, tokens, texts, is_unsupplied, has_tokens_alone, is_mended, AreKept, TokensStay, IsCutAgain};
+ghost use Rattle.prepare.specs.Changed.{owns};
+ghost use Rattle.prepare.specs.Laws.{prepared, exchanged, has_change, HasNothingToMend, sources, tokens, texts, is_unsupplied, has_tokens_alone, is_mended, AreKept, TokensStay, IsCutAgain};
 
 /// What is prepared has as many lines as the markers of the text ask for.
 pub fn lines_are_those_asked()

@@ -2,6 +2,7 @@
 //! blocks that only verification needs and of subtypes of `mtype`, and the range of a `for` over an array.
 #![tactic(auto)]
 
+pub mod changed;
 pub mod changes;
 mod character;
 pub mod coding;

@@ -7,7 +7,7 @@ use pml_token::token::Kind;
 
 /// What a token is to preparing.
 #[derive(Clone, Copy)]
-pub enum Role {
+pub enum TokenRole {
     /// `{`.
     Opens,
     /// `}`.
@@ -54,25 +54,25 @@ fn is_block_word(token: &[u8]) -> bool
 }
 
 /// What a token of this kind is that opens, closes or divides.
-fn bracket_of(kind: Kind) -> Role
+fn bracket_of(kind: Kind) -> TokenRole
     ensures { result ≡ roles.bracket kind }
 {
     match kind {
-        Kind::OpenBrace => Role::Opens,
-        Kind::CloseBrace => Role::Closes,
-        Kind::OpenParen => Role::Enters,
-        Kind::OpenBracket => Role::Indexes,
-        Kind::CloseParen | Kind::CloseBracket => Role::Leaves,
-        Kind::Colon => Role::Labels,
-        Kind::Assign => Role::Assigns,
-        Kind::DoubleColon | Kind::Fi | Kind::Od => Role::Parts,
-        Kind::Typedef => Role::Typedef,
-        Kind::For => Role::For,
-        Kind::Mtype => Role::Mtype,
-        Kind::Quoted => Role::Quotes,
-        Kind::Name => Role::Names,
-        Kind::LeftOut => Role::LeftOut,
-        _ => Role::Other,
+        Kind::OpenBrace => TokenRole::Opens,
+        Kind::CloseBrace => TokenRole::Closes,
+        Kind::OpenParen => TokenRole::Enters,
+        Kind::OpenBracket => TokenRole::Indexes,
+        Kind::CloseParen | Kind::CloseBracket => TokenRole::Leaves,
+        Kind::Colon => TokenRole::Labels,
+        Kind::Assign => TokenRole::Assigns,
+        Kind::DoubleColon | Kind::Fi | Kind::Od => TokenRole::Parts,
+        Kind::Typedef => TokenRole::Typedef,
+        Kind::For => TokenRole::For,
+        Kind::Mtype => TokenRole::Mtype,
+        Kind::Quoted => TokenRole::Quotes,
+        Kind::Name => TokenRole::Names,
+        Kind::LeftOut => TokenRole::LeftOut,
+        _ => TokenRole::Other,
     }
 }
 
@@ -150,36 +150,36 @@ fn asks(kind: Kind) -> bool
 }
 
 /// What a token is, by its kind and its bytes.
-pub fn role_of(kind: Kind, token: &[u8]) -> Role
+pub fn role_of(kind: Kind, token: &[u8]) -> TokenRole
     ensures { result ≡ roles.role kind token.now }
 {
     if is_block_word(token) {
-        return Role::Heads;
+        return TokenRole::Heads;
     }
     if is_both(kind) {
-        return Role::Both;
+        return TokenRole::Both;
     }
     if is_ending(kind) {
-        return Role::Ends;
+        return TokenRole::Ends;
     }
     if declares(kind) || (acts(kind) || asks(kind)) {
-        return Role::Begins;
+        return TokenRole::Begins;
     }
     bracket_of(kind)
 }
 
 /// Whether a token may begin a statement.
-pub fn begins(role: Role) -> bool
+pub fn begins(role: TokenRole) -> bool
     ensures { result ≡ roles.begins role }
 {
     matches!(
         role,
-        Role::Opens
-            | Role::Enters
-            | Role::For
-            | Role::Mtype
-            | Role::Names
-            | Role::Both
-            | Role::Begins
+        TokenRole::Opens
+            | TokenRole::Enters
+            | TokenRole::For
+            | TokenRole::Mtype
+            | TokenRole::Names
+            | TokenRole::Both
+            | TokenRole::Begins
     )
 }

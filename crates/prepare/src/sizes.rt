@@ -24,7 +24,7 @@ pub enum Lead {
 
 /// What is known of declarations before a token.
 #[derive(Clone, Copy)]
-pub struct Reading {
+pub struct DeclarationReading {
     pub lead: Lead,
     /// Whether a declaration goes on.
     pub goes_on: bool,
@@ -147,12 +147,12 @@ fn size_at(stretches: &[Stretch<'_>]) -> u32
     }
 }
 
-impl Reading {
+impl DeclarationReading {
     /// The beginning of a text.
-    pub fn start() -> Reading
+    pub fn start() -> DeclarationReading
         ensures { result ≡ sizes.start }
     {
-        Reading {
+        DeclarationReading {
             lead: Lead::Other,
             goes_on: false,
             depth: 0,
@@ -183,12 +183,12 @@ impl Reading {
     }
 
     /// What is known behind a token.
-    pub fn behind(self, kind: Kind, token: &[u8]) -> Reading
+    pub fn behind(self, kind: Kind, token: &[u8]) -> DeclarationReading
         ensures { result ≡ sizes.behind self kind token.now }
     {
         let is_typedef = same_kind(kind, Kind::Typedef);
         let declares = self.declares(kind);
-        Reading {
+        DeclarationReading {
             lead: lead_of(kind, token),
             goes_on: declares || (self.goes_on && !(is_typedef || self.ends(kind))),
             depth: if is_typedef || declares {
@@ -225,11 +225,11 @@ fn joined(known: Option<u32>, size: u32) -> u32
 
 /// The sizes of names, each as all its declarations have it.
 #[derive(Drop)]
-pub(crate) struct Sizes<'t> {
+pub(crate) struct ArraySizes<'t> {
     numbers: BTreeMap<&'t [u8], u32>,
 }
 
-impl<'t> Sizes<'t> {
+impl<'t> ArraySizes<'t> {
     /// The size of a name, 0 where its declarations do not agree in one.
     pub(crate) fn find(&self, name: &[u8]) -> Option<u32>
         ensures { result ≡ size_in self.now.numbers name.now }
@@ -241,7 +241,7 @@ impl<'t> Sizes<'t> {
 /// Notes what one stretch declares, where `back` are those behind it.
 fn note<'t>(
     numbers: &mut BTreeMap<&'t [u8], u32>,
-    reading: Reading,
+    reading: DeclarationReading,
     stretch: &Stretch<'t>,
     back: &[Stretch<'t>],
 ) -> Result<(), AllocError>
@@ -259,16 +259,16 @@ fn note<'t>(
 pub(crate) fn sizes_of<'t>(
     alloc: Global,
     stretches: &[Stretch<'t>],
-) -> Result<Sizes<'t>, AllocError>
+) -> Result<ArraySizes<'t>, AllocError>
     ensures { IfOk result (λ s. AreSizes s.numbers stretches.now) }
 {
     let mut numbers: BTreeMap<&'t [u8], u32> = BTreeMap::new(alloc);
-    let mut reading = Reading::start();
+    let mut reading = DeclarationReading::start();
     let mut rest = stretches;
     while let [stretch, back @ ..] = rest {
         note(&mut numbers, reading, stretch, back)?;
         reading = reading.behind(stretch.kind(), stretch.token());
         rest = back;
     }
-    Ok(Sizes { numbers })
+    Ok(ArraySizes { numbers })
 }

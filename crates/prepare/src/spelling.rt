@@ -8,7 +8,7 @@ ghost use Rattle.prepare.specs.Spelling as spelling;
 
 use crate::FORM_FEED;
 use crate::context::Supply;
-use crate::stretch::{Form, Stretch};
+use crate::stretch::{Stretch, StretchForm};
 use std::alloc::{AllocError, Global};
 
 fn blank(b: u8) -> u8
@@ -79,16 +79,16 @@ pub(crate) fn add_feeds(out: &mut Vec<u8>, token: &[u8]) -> Result<(), AllocErro
     Ok(())
 }
 
-fn add_token(out: &mut Vec<u8>, form: Form, token: &[u8]) -> Result<(), AllocError>
+fn add_token(out: &mut Vec<u8>, form: StretchForm, token: &[u8]) -> Result<(), AllocError>
     ensures { OnOk result (out.new.items ≡ out.old.items ++ spelling.shown form token.now) }
 {
     match form {
-        Form::Kept => out.extend_from_slice(token),
-        Form::Joined => {
+        StretchForm::Kept => out.extend_from_slice(token),
+        StretchForm::Joined => {
             add_unbroken(out, token)?;
             add_feeds(out, token)
         }
-        Form::Blanked => add_blanks(out, token),
+        StretchForm::Blanked => add_blanks(out, token),
     }
 }
 

@@ -5,14 +5,14 @@ ghost use Rattle.std.specs.List.{list_any};
 ghost use Rattle.prepare.specs.Stretches as stretches;
 
 use crate::FORM_FEED;
-use crate::context::{Block, Context, Last, Supply, is_blanked, supply_at};
-use crate::roles::{Role, role_of};
+use crate::context::{BlankedBlock, Context, LastToken, Supply, is_blanked, supply_at};
+use crate::roles::{TokenRole, role_of};
 use pml_token::token::Kind;
 use std::marker::Model;
 
 /// How a token is written.
 #[derive(Clone, Copy)]
-pub enum Form {
+pub enum StretchForm {
     /// As it stands.
     Kept,
     /// On one line, its line feeds behind it.
@@ -23,7 +23,7 @@ pub enum Form {
 
 /// What is to be said of a token.
 #[derive(Clone, Copy)]
-pub enum Remark {
+pub enum StretchRemark {
     Nothing,
     /// It heads a block that is blanked.
     BlockBegins,
@@ -42,8 +42,8 @@ pub struct Stretch<'t> {
     gap: &'t [u8],
     token: &'t [u8],
     kind: Kind,
-    form: Form,
-    remark: Remark,
+    form: StretchForm,
+    remark: StretchRemark,
 }
 
 impl<'t> Model for Stretch<'t> {
@@ -71,52 +71,52 @@ fn has_end(gap: &[u8]) -> bool
     false
 }
 
-fn form_of(block: Block, role: Role) -> Form
+fn form_of(block: BlankedBlock, role: TokenRole) -> StretchForm
     ensures { result ≡ stretches.form_of block role }
 {
     if is_blanked(block, role) {
-        return Form::Blanked;
+        return StretchForm::Blanked;
     }
     match role {
-        Role::Quotes => Form::Joined,
-        _ => Form::Kept,
+        TokenRole::Quotes => StretchForm::Joined,
+        _ => StretchForm::Kept,
     }
 }
 
-fn block_remark(block: Block, role: Role) -> Remark
+fn block_remark(block: BlankedBlock, role: TokenRole) -> StretchRemark
     ensures { result ≡ stretches.block_remark block role }
 {
     match block {
-        Block::Within(depth) => match role {
-            Role::Closes => {
+        BlankedBlock::Within(depth) => match role {
+            TokenRole::Closes => {
                 if depth > 1 {
-                    Remark::Nothing
+                    StretchRemark::Nothing
                 } else {
-                    Remark::BlockEnds
+                    StretchRemark::BlockEnds
                 }
             }
-            _ => Remark::Nothing,
+            _ => StretchRemark::Nothing,
         },
         _ => match role {
-            Role::Heads => Remark::BlockBegins,
-            _ => Remark::Nothing,
+            TokenRole::Heads => StretchRemark::BlockBegins,
+            _ => StretchRemark::Nothing,
         },
     }
 }
 
-fn code_remark(last: Last, role: Role) -> Remark
+fn code_remark(last: LastToken, role: TokenRole) -> StretchRemark
     ensures { result ≡ stretches.code_remark last role }
 {
     match role {
-        Role::LeftOut => Remark::LeftOut,
-        Role::Opens => {
-            if last == Last::Assigned {
-                Remark::List
+        TokenRole::LeftOut => StretchRemark::LeftOut,
+        TokenRole::Opens => {
+            if last == LastToken::Assigned {
+                StretchRemark::List
             } else {
-                Remark::Nothing
+                StretchRemark::Nothing
             }
         }
-        _ => Remark::Nothing,
+        _ => StretchRemark::Nothing,
     }
 }
 
@@ -155,8 +155,8 @@ impl<'t> Stretch<'t> {
             gap,
             token: b"",
             kind: Kind::End,
-            form: Form::Kept,
-            remark: Remark::Nothing,
+            form: StretchForm::Kept,
+            remark: StretchRemark::Nothing,
         }
     }
 
@@ -189,14 +189,14 @@ impl<'t> Stretch<'t> {
     }
 
     /// How the token is written.
-    pub fn form(&self) -> Form
+    pub fn form(&self) -> StretchForm
         ensures { result ≡ self.now.form }
     {
         self.form
     }
 
     /// What is to be said of the token.
-    pub fn remark(&self) -> Remark
+    pub fn remark(&self) -> StretchRemark
         ensures { result ≡ self.now.remark }
     {
         self.remark

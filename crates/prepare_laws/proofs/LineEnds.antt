@@ -6,10 +6,10 @@ use Rattle.std.proofs.lemmas.Bool.{false≢true}
 use Rattle.std.proofs.lemmas.Bool.Decides.{nat_tests}
 use Rattle.pml_token.specs.declared.token.Kind.{Kind}
 use Rattle.pml_token.specs.declared.token.Kind.TheVariants as kind
-use Rattle.prepare.specs.declared.roles.Role.{Role}
-use Rattle.prepare.specs.declared.roles.Role.TheVariants as as_role
-use Rattle.prepare.specs.declared.context.Last.{Last}
-use Rattle.prepare.specs.declared.context.Last.TheVariants as state
+use Rattle.prepare.specs.declared.roles.TokenRole.{TokenRole}
+use Rattle.prepare.specs.declared.roles.TokenRole.TheVariants as as_role
+use Rattle.prepare.specs.declared.context.LastToken.{LastToken}
+use Rattle.prepare.specs.declared.context.LastToken.TheVariants as state
 use Rattle.prepare.specs.declared.context.Code.{Code}
 use Rattle.prepare.specs.declared.context.Context.{Context}
 use Rattle.prepare.specs.declared.context.Supply.{Supply}
@@ -31,7 +31,7 @@ abbrev is_subtype : List Kind → Bool
 is_subtype (kind.Colon ∷ ks) = is_type ks
 is_subtype _ = false
 
-record LastIs (l : Last) (ks : List Kind) : Type 0 where
+record LastIs (l : LastToken) (ks : List Kind) : Type 0 where
   ended : l ≡ state.Ended → MayEnd ks
   if_ended : MayEnd ks → l ≡ state.Ended
   typed : is_typed l ≡ is_type ks
@@ -47,7 +47,7 @@ record Knows (c : Code) (ks : List Kind) : Type 0 where
   last : LastIs c.last ks
 
 -- behind a token that is no brace and no `typedef`
-plain_behind : (c : Code) (k : Kind) (ks : List Kind) (m : ℕ) (h : Bool) (l : Last) → Knows c ks
+plain_behind : (c : Code) (k : Kind) (ks : List Kind) (m : ℕ) (h : Bool) (l : LastToken) → Knows c ks
     → braces_with k (opened ks) ≡ opened ks → m ≡ brackets_with k (entered ks) → h ≡ waits (k ∷ ks) → (k ≡ kind.CloseBrace → ⊥) → (BeginsList (k ∷ ks) → ⊥) → (BeginsTypedef (k ∷ ks) → ⊥) → LastIs l (k ∷ ks)
     → Knows (record { braces = c.braces; brackets = m; is_list = c.is_list; is_fields = c.is_fields; is_head = h; last = l }) (k ∷ ks)
 plain_behind c k ks m h l w braces brackets head no_close no_list no_typedef last =
@@ -76,7 +76,7 @@ name_is [] = refl
 name_is (kind.Colon ∷ ks) = refl
 name_is (_ ∷ ks) = refl
 
-named_by : (l : Last) (b : Bool) (ks : List Kind) → is_subtyped l ≡ b → is_type (kind.Name ∷ ks) ≡ b → LastIs (cond (is_subtyped l) state.Typed state.Ended) (kind.Name ∷ ks)
+named_by : (l : LastToken) (b : Bool) (ks : List Kind) → is_subtyped l ≡ b → is_type (kind.Name ∷ ks) ≡ b → LastIs (cond (is_subtyped l) state.Typed state.Ended) (kind.Name ∷ ks)
 named_by l true ks e f =
     subst (λ (x : Bool). LastIs (cond x state.Typed state.Ended) (kind.Name ∷ ks)) (sym e)
     (record { ended = λ x. cc; if_ended = λ m. absurd (false≢true (sym m ∙ f)); typed = sym f; subtyped = refl; assigned = refl })
@@ -84,7 +84,7 @@ named_by l false ks e f =
     subst (λ (x : Bool). LastIs (cond x state.Typed state.Ended) (kind.Name ∷ ks)) (sym e)
     (record { ended = λ x. f; if_ended = λ m. refl; typed = sym f; subtyped = refl; assigned = refl })
 
-labelled_by : (l : Last) (b : Bool) (ks : List Kind) → is_typed l ≡ b → is_type ks ≡ b → LastIs (cond (is_typed l) state.Subtyped state.Labelled) (kind.Colon ∷ ks)
+labelled_by : (l : LastToken) (b : Bool) (ks : List Kind) → is_typed l ≡ b → is_type ks ≡ b → LastIs (cond (is_typed l) state.Subtyped state.Labelled) (kind.Colon ∷ ks)
 labelled_by l true ks e f =
     subst (λ (x : Bool). LastIs (cond x state.Subtyped state.Labelled) (kind.Colon ∷ ks)) (sym e)
     (record { ended = λ x. cc; if_ended = λ m. absurd (false≢true m); typed = refl; subtyped = sym f; assigned = refl })
@@ -92,7 +92,7 @@ labelled_by l false ks e f =
     subst (λ (x : Bool). LastIs (cond x state.Subtyped state.Labelled) (kind.Colon ∷ ks)) (sym e)
     (record { ended = λ x. cc; if_ended = λ m. absurd (false≢true m); typed = refl; subtyped = sym f; assigned = refl })
 
-assigned_by : (l : Last) (b : Bool) (ks : List Kind) → is_typed l ≡ b → is_type ks ≡ b → LastIs (cond (is_typed l) state.Open state.Assigned) (kind.Assign ∷ ks)
+assigned_by : (l : LastToken) (b : Bool) (ks : List Kind) → is_typed l ≡ b → is_type ks ≡ b → LastIs (cond (is_typed l) state.Open state.Assigned) (kind.Assign ∷ ks)
 assigned_by l true ks e f =
     subst (λ (x : Bool). LastIs (cond x state.Open state.Assigned) (kind.Assign ∷ ks)) (sym e)
     (record { ended = λ x. cc; if_ended = λ m. absurd (false≢true m); typed = refl; subtyped = refl; assigned = ap not (sym f) })
@@ -251,12 +251,12 @@ separates : (b : Bool) → cond b Separator Nothing ≡ Separator → b ≡ true
 separates true e = refl
 separates false e = cc
 
-no_separator : (r : Role) → skip_before r ≡ Separator → ⊥
+no_separator : (r : TokenRole) → skip_before r ≡ Separator → ⊥
 no_separator as_role.Closes e = cc
 no_separator as_role.Parts e = cc
 no_separator _ e = cc
 
-separator_by : (l : Last) (b : Bool) (r : Role) → supply_behind l b r ≡ Separator → (l ≡ state.Ended) × (b ≡ true)
+separator_by : (l : LastToken) (b : Bool) (r : TokenRole) → supply_behind l b r ≡ Separator → (l ≡ state.Ended) × (b ≡ true)
 separator_by state.Labelled b r e = absurd (no_separator r e)
 separator_by state.Ended b r e = (refl, separates b e)
 separator_by _ b r e = cc
@@ -311,7 +311,7 @@ each_at p u ks t h e =
     (both (c.brackets == 0) (not c.is_list) (bracket_none c.brackets (h.brackets ∙ e.outside)) (not_so c.is_list (λ b. e.no_list (h.list.so b)))) in
     let all : (line && (begins r && has_statements c)) ≡ true = both line (begins r && has_statements c) e.line (both (begins r) (has_statements c) (begins_is u.kind u.token t.word ∙ e.begins) has) in
     given p u t ∙ ap (λ (x : Bool). cond x Nothing (supply c line r)) e.stays
-    ∙ ap (λ (l : Last). supply_behind l (line && (begins r && has_statements c)) r) (h.last.if_ended e.ends)
+    ∙ ap (λ (l : LastToken). supply_behind l (line && (begins r && has_statements c)) r) (h.last.if_ended e.ends)
     ∙ ap (λ (x : Bool). supply_behind state.Ended x r) all
 
 record At (ks : List Kind) (t : Written) : Type 0 where

@@ -5,11 +5,11 @@ use Rattle.std.proofs.lemmas.List.{length-drop}
 use Rattle.prepare.specs.Written.{Written}
 use Rattle.prepare.specs.Stretches.{stretches}
 use Rattle.pml_token.specs.declared.token.Kind.{Kind}
-use Rattle.listed_values.specs.declared.course.Mode.{Mode}
+use Rattle.listed_values.specs.declared.course.ListMode.{ListMode}
 use Rattle.listed_values.specs.declared.course.Within.{Within}
-use Rattle.listed_values.specs.declared.course.Course.{Course}
-use Rattle.listed_values.specs.declared.changes.Change.{Change}
-use Rattle.listed_values.specs.declared.changes.Change.TheVariants as change
+use Rattle.listed_values.specs.declared.course.ListCourse.{ListCourse}
+use Rattle.listed_values.specs.declared.changes.ValueChange.{ValueChange}
+use Rattle.listed_values.specs.declared.changes.ValueChange.TheVariants as change
 use Rattle.listed_values.specs.Lists.{count_at, are_same, behind_brace}
 use Rattle.listed_values.specs.Courses.{start, behind, declares, listed, outside, is_front, mode_of, within_behind, is_first}
 use Rattle.listed_values.specs.Changes.{changes_by, changes, change_within}
@@ -25,7 +25,7 @@ less_by : (b : Bool) (l n : ℕ) (w u : Within) → b ≡ true → l ≡ suc n �
 less_by true l n w u p e f = omega (arith, e, f)
 less_by false l n w u p e f = absurd (false≢true p)
 
-less : (c : Course) (b : Bool) (k : Kind) (ts : List Written) (n : ℕ) → c.within.left ≡ suc n → (within_behind c b k ts).left ≡ n
+less : (c : ListCourse) (b : Bool) (k : Kind) (ts : List Written) (n : ℕ) → c.within.left ≡ suc n → (within_behind c b k ts).left ≡ n
 less c b k ts n e =
     let m = listed c k ts in
     let w : Within = record { left = c.within.left - 1; count = c.within.count; mode = c.within.mode } in
@@ -33,8 +33,8 @@ less c b k ts n e =
     less_by (nat_lt 0 c.within.left) c.within.left n w (cond (m == 0) outside u) (above c.within.left n e) e refl
 
 -- behind as many tokens as are left of it no list goes on
-through : (n : ℕ) (c : Course) (b : Bool) (ts : List Written) → c.within.left ≡ n
-    → ((d : Course) → d.within.left ≡ 0 → ListsAlone (drop n ts) (changes_by d b (drop n ts))) → ListsAlone (drop n ts) (drop n (changes_by c b ts))
+through : (n : ℕ) (c : ListCourse) (b : Bool) (ts : List Written) → c.within.left ≡ n
+    → ((d : ListCourse) → d.within.left ≡ 0 → ListsAlone (drop n ts) (changes_by d b (drop n ts))) → ListsAlone (drop n ts) (drop n (changes_by c b ts))
 through zero c b ts e go = go c e
 through (suc n) c b [] e go = nothing
 through (suc n) c b (t ∷ ts) e go = through n (behind c b t.kind t.token ts) b ts (less c b t.kind ts n e) go
@@ -48,7 +48,7 @@ none_left : (l : ℕ) → l ≡ 0 → nat_lt 0 l ≡ false
 none_left zero e = refl
 none_left (suc l) e = cc
 
-begun_by : (a b : Bool) (x : ℕ) (w : Within) (m : Mode) → a ≡ false
+begun_by : (a b : Bool) (x : ℕ) (w : Within) (m : ListMode) → a ≡ false
     → let v : Within = cond a w (cond b outside (record { left = x * 2 + 5; count = x; mode = m })) in (v.left ≡ 0) ⊎ ((b ≡ false) × (v.left ≡ tokens_of x))
 begun_by true b x w m e = absurd (false≢true (sym e))
 begun_by false true x w m e = inl refl
@@ -66,7 +66,7 @@ either_way : (n : ℕ) (d : Bool) (left : ℕ) → (left ≡ 0) ⊎ (((cond d n 
 either_way n d left (inl e) = inl e
 either_way n d left (inr p) = let l = by_listed d n p.0 in inr (l.0, p.1 ∙ ap tokens_of l.1)
 
-begun : (c : Course) (b : Bool) (k : Kind) (ts : List Written) → c.within.left ≡ 0 → BeginsOrNot ts (within_behind c b k ts)
+begun : (c : ListCourse) (b : Bool) (k : Kind) (ts : List Written) → c.within.left ≡ 0 → BeginsOrNot ts (within_behind c b k ts)
 begun c b k ts e =
     let n = listed c k ts in
     let w : Within = record { left = c.within.left - 1; count = c.within.count; mode = c.within.mode } in
@@ -75,14 +75,14 @@ begun c b k ts e =
 
 -- ---- each such token stays
 
-kept_by : (l : ℕ) (x : Change) (h : Bool) → l ≡ 0
+kept_by : (l : ℕ) (x : ValueChange) (h : Bool) → l ≡ 0
     → let y = cond (nat_lt 0 l) x (cond h change.Headed change.Kept) in (y ≡ change.Kept) ⊎ (y ≡ change.Headed)
 kept_by zero x true e = inr refl
 kept_by zero x false e = inl refl
 kept_by (suc l) x h e = cc
 
-behind_is : (fuel : ℕ) (d : Course) (b : Bool) (ts : List Written) → length ts ≤ fuel
-    → ((c : Course) (us : List Written) → length us ≤ fuel → c.within.left ≡ 0 → ListsAlone us (changes_by c b us))
+behind_is : (fuel : ℕ) (d : ListCourse) (b : Bool) (ts : List Written) → length ts ≤ fuel
+    → ((c : ListCourse) (us : List Written) → length us ≤ fuel → c.within.left ≡ 0 → ListsAlone us (changes_by c b us))
     → BeginsOrNot ts d.within → ListsAlone ts (changes_by d b ts)
 behind_is fuel d b ts h go (inl e) = go d ts h e
 behind_is fuel d b ts h go (inr p) =
@@ -90,7 +90,7 @@ behind_is fuel d b ts h go (inr p) =
     let l = length-drop n ts in
     list p.0 (through n d b ts p.1 (λ c e. go c (drop n ts) (omega (arith, h, l)) e))
 
-alone : (fuel : ℕ) (c : Course) (b : Bool) (ts : List Written) → length ts ≤ fuel → c.within.left ≡ 0 → ListsAlone ts (changes_by c b ts)
+alone : (fuel : ℕ) (c : ListCourse) (b : Bool) (ts : List Written) → length ts ≤ fuel → c.within.left ≡ 0 → ListsAlone ts (changes_by c b ts)
 alone fuel c b [] h e = nothing
 alone zero c b (t ∷ ts) h e = absurd (omega (arith, h))
 alone (suc fuel) c b (t ∷ ts) h e =

@@ -3,10 +3,10 @@ use Rattle.std.proofs.Common.{◌≡◌, ℕ, Bool, true, false, cond, ◌&&◌,
 use Rattle.std.specs.List.{list_any}
 use Rattle.pml_token.specs.declared.token.Kind.{Kind}
 use Rattle.pml_token.specs.declared.token.Kind.TheVariants as kind
-use Rattle.prepare.specs.declared.roles.Role.{Role}
-use Rattle.prepare.specs.declared.roles.Role.TheVariants as as_role
-use Rattle.prepare.specs.declared.context.Last.{Last}
-use Rattle.prepare.specs.declared.context.Last.TheVariants as state
+use Rattle.prepare.specs.declared.roles.TokenRole.{TokenRole}
+use Rattle.prepare.specs.declared.roles.TokenRole.TheVariants as as_role
+use Rattle.prepare.specs.declared.context.LastToken.{LastToken}
+use Rattle.prepare.specs.declared.context.LastToken.TheVariants as state
 use Rattle.prepare.specs.declared.context.Code.{Code}
 use Rattle.prepare.specs.declared.context.Context.{Context}
 use Rattle.prepare.specs.declared.context.Supply.{Supply}
@@ -32,23 +32,23 @@ abbrev halted : Code → Code
 halted c = record c { last = state.Open }
 
 -- before `;` and before `skip` nothing is written where no line ends
-none_before_semicolon : (l : Last) → supply_behind l false as_role.Other ≡ Nothing
+none_before_semicolon : (l : LastToken) → supply_behind l false as_role.Other ≡ Nothing
 none_before_semicolon state.Labelled = refl
 none_before_semicolon state.Ended = refl
 none_before_semicolon _ = refl
 
-none_before_skip : (l : Last) → supply_behind l false as_role.Both ≡ Nothing
+none_before_skip : (l : LastToken) → supply_behind l false as_role.Both ≡ Nothing
 none_before_skip state.Labelled = refl
 none_before_skip state.Ended = refl
 none_before_skip _ = refl
 
-no_separator : (r : Role) → skip_before r ≡ Separator → ⊥
+no_separator : (r : TokenRole) → skip_before r ≡ Separator → ⊥
 no_separator as_role.Closes e = cc
 no_separator as_role.Parts e = cc
 no_separator _ e = cc
 
 -- `;` is written behind a token behind which a statement may end
-separated_last : (l : Last) (b : Bool) (r : Role) → supply_behind l b r ≡ Separator → l ≡ state.Ended
+separated_last : (l : LastToken) (b : Bool) (r : TokenRole) → supply_behind l b r ≡ Separator → l ≡ state.Ended
 separated_last state.Labelled b r e = absurd (no_separator r e)
 separated_last state.Ended b r e = refl
 separated_last _ b r e = cc
@@ -58,13 +58,13 @@ no_skip true e = cc
 no_skip false e = cc
 
 -- `skip` is written before what ends a sequence
-skipped_before : (l : Last) (b : Bool) (r : Role) → supply_behind l b r ≡ Skip → skip_before r ≡ Skip
+skipped_before : (l : LastToken) (b : Bool) (r : TokenRole) → supply_behind l b r ≡ Skip → skip_before r ≡ Skip
 skipped_before state.Labelled b r e = e
 skipped_before state.Ended b r e = absurd (no_skip b e)
 skipped_before _ b r e = cc
 
 -- `;` leads to where the statement before it led
-behind_ended : (c : Code) (r : Role) → code_behind (halted c) r ≡ code_behind (ended c) r
+behind_ended : (c : Code) (r : TokenRole) → code_behind (halted c) r ≡ code_behind (ended c) r
 behind_ended c as_role.Opens = refl
 behind_ended c as_role.Closes = refl
 behind_ended c as_role.Enters = refl
@@ -81,18 +81,18 @@ behind_ended c as_role.Ends = refl
 behind_ended c _ = refl
 
 is_ended : (c : Code) → c.last ≡ state.Ended → ended c ≡ c
-is_ended c e = ap (λ (l : Last). record c { last = l }) (sym e)
+is_ended c e = ap (λ (l : LastToken). record c { last = l }) (sym e)
 
-behind_semicolon : (c : Code) (r : Role) → c.last ≡ state.Ended → code_behind (halted c) r ≡ code_behind c r
+behind_semicolon : (c : Code) (r : TokenRole) → c.last ≡ state.Ended → code_behind (halted c) r ≡ code_behind c r
 behind_semicolon c r e = behind_ended c r ∙ ap (λ (d : Code). code_behind d r) (is_ended c e)
 
 -- behind `skip` nothing is written before what ends a sequence, and that leads to where it led
-none_behind_skip : (c : Code) (b : Bool) (r : Role) → skip_before r ≡ Skip → supply (ended c) b r ≡ Nothing
+none_behind_skip : (c : Code) (b : Bool) (r : TokenRole) → skip_before r ≡ Skip → supply (ended c) b r ≡ Nothing
 none_behind_skip c b as_role.Closes e = ap (λ (x : Bool). cond x Separator Nothing) (and_none b)
 none_behind_skip c b as_role.Parts e = ap (λ (x : Bool). cond x Separator Nothing) (and_none b)
 none_behind_skip c b _ e = cc
 
-behind_skip : (c : Code) (r : Role) → skip_before r ≡ Skip → code_behind (ended c) r ≡ code_behind c r
+behind_skip : (c : Code) (r : TokenRole) → skip_before r ≡ Skip → code_behind (ended c) r ≡ code_behind c r
 behind_skip c as_role.Closes e = refl
 behind_skip c as_role.Parts e = refl
 behind_skip c _ e = cc
@@ -140,7 +140,7 @@ twice ts = stays ts start.code
 -- ---- the tokens of a text
 
 -- before a word that is left out nothing is written, whether it is that of a block or another
-none_before_word : (l : Last) (b : Bool) → supply_behind l (b && false) as_role.Heads ≡ supply_behind l (b && false) as_role.LeftOut
+none_before_word : (l : LastToken) (b : Bool) → supply_behind l (b && false) as_role.Heads ≡ supply_behind l (b && false) as_role.LeftOut
 none_before_word state.Labelled b = refl
 none_before_word state.Ended b = refl
 none_before_word _ b = refl
@@ -150,7 +150,7 @@ supply_by true c b k t e word =
     ap (λ (x : Bool). supply c b (cond x as_role.Heads (role_of k))) e ∙ none_before_word c.last b ∙ ap (λ (x : Kind). supply c b (role_of x)) (sym (word e))
 supply_by false c b k t e word = ap (λ (x : Bool). supply c b (cond x as_role.Heads (role_of k))) e
 
-none_at_end : (l : Last) (b : Bool) → supply_behind l (b && false) as_role.Other ≡ Nothing
+none_at_end : (l : LastToken) (b : Bool) → supply_behind l (b && false) as_role.Other ≡ Nothing
 none_at_end state.Labelled b = refl
 none_at_end state.Ended b = ap (λ (x : Bool). cond x Separator Nothing) (and_none b)
 none_at_end _ b = refl

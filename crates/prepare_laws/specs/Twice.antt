@@ -3,7 +3,7 @@ use Rattle.std.specs.Prelude.{◌≡◌, Bool, false, if◌then◌else◌, List,
 use Rattle.std.specs.List.{list_any, flat_map}
 use Rattle.pml_token.specs.declared.token.Kind.{Kind}
 use Rattle.pml_token.specs.declared.token.Kind.TheVariants as kind
-use Rattle.prepare.specs.declared.roles.Role.{Role}
+use Rattle.prepare.specs.declared.roles.TokenRole.{TokenRole}
 use Rattle.prepare.specs.declared.context.Code.{Code}
 use Rattle.prepare.specs.declared.context.Supply.{Supply}
 use Rattle.prepare.specs.declared.context.Supply.TheVariants as as_supply
@@ -19,7 +19,7 @@ pub record Piece : Type 0 where
   pub is_over : Bool
 
 -- what a token of this kind is to the end of a line
-abbrev pub role_of : Kind → Role
+abbrev pub role_of : Kind → TokenRole
 role_of k = role k []
 
 -- `;` or `skip`, before which no line ends

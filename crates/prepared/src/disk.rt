@@ -2,7 +2,7 @@
 
 ghost use Rattle.std.specs.Prelude.{◌≤◌, length};
 
-use pml_directives::files::{Files, Found};
+use pml_directives::files::{Files, FoundFile};
 use std::alloc::{AllocError, Global};
 use std::fs;
 use std::io::Read;
@@ -78,9 +78,9 @@ impl<'r> Disk<'r> {
     }
 
     // The file of a whole name.
-    fn found(&self, name: Vec<u8>) -> Option<Found> {
+    fn found(&self, name: Vec<u8>) -> Option<FoundFile> {
         match bytes_of(self.rt, &name) {
-            Some(text) => Some(Found { name, text }),
+            Some(text) => Some(FoundFile { name, text }),
             None => None,
         }
     }
@@ -93,7 +93,7 @@ impl<'r> Files for Disk<'r> {
         from: &[u8],
         name: &[u8],
         is_quoted: bool,
-    ) -> Result<Option<Found>, AllocError> {
+    ) -> Result<Option<FoundFile>, AllocError> {
         if is_quoted || name.starts_with(b"/") {
             if let Some(found) = self.found(beside(alloc, self.name_of(from), name)?) {
                 return Ok(Some(found));

@@ -16,7 +16,7 @@ pub struct How {
 
 /// The option of a macro, by its letter, and what stands behind that.
 #[derive(Clone, Copy)]
-pub struct Valued<'w> {
+pub struct MacroOption<'w> {
     pub letter: char,
     pub value: &'w str,
 }
@@ -65,7 +65,11 @@ fn add_definition(given: &mut Vec<u8>, value: &str) -> Result<(), AllocError> {
 }
 
 /// Adds the line that stands for `-DNAME=VALUE`, `-DNAME` or `-UNAME`.
-pub fn add_line(alloc: Global, given: &mut Vec<u8>, valued: Valued<'_>) -> Result<(), Unprepared> {
+pub fn add_line(
+    alloc: Global,
+    given: &mut Vec<u8>,
+    valued: MacroOption<'_>,
+) -> Result<(), Unprepared> {
     let value = valued.value;
     if !has_name(value) || (valued.letter == 'U' && value.contains('=')) || value.contains('\n') {
         let word = format!(in alloc;
@@ -104,7 +108,7 @@ impl How {
         let mut given = Vec::new(alloc);
         let mut folders = Vec::new(alloc);
         for value in defined {
-            let valued = Valued {
+            let valued = MacroOption {
                 letter: 'D',
                 value: value.as_str(),
             };

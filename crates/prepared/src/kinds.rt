@@ -11,7 +11,7 @@ const MOST_PLACES: usize = 100;
 
 /// What is said of a word.
 #[derive(Clone, Copy, PartialEq, Eq)]
-pub enum What {
+pub enum Topic {
     Blanked,
     Unclosed,
     LeftOut,
@@ -44,7 +44,7 @@ struct Span {
 // What is said of a word, with its places and how many more it has.
 #[derive(Drop)]
 struct Kind<'t> {
-    what: What,
+    what: Topic,
     word: &'t [u8],
     places: Vec<Span>,
     more: u64,
@@ -67,33 +67,33 @@ impl<'t> Kind<'t> {
     fn words(&self, alloc: Global) -> Result<String, AllocError> {
         let word = shown(alloc, self.word)?;
         match self.what {
-            What::Blanked => format!(in alloc; "'{word}' is blanked"),
-            What::Unclosed => format!(in alloc;
+            Topic::Blanked => format!(in alloc; "'{word}' is blanked"),
+            Topic::Unclosed => format!(in alloc;
                 "'{word}' has no block that ends; what is behind it is blanked"
             ),
-            What::LeftOut => format!(in alloc; "what is left out '{word}' is left as it is"),
-            What::Apostrophe => format!(in alloc;
+            Topic::LeftOut => format!(in alloc; "what is left out '{word}' is left as it is"),
+            Topic::Apostrophe => format!(in alloc;
                 "a ' that stands round no single character is left as it is"
             ),
-            What::Bytes => format!(in alloc; "bytes that begin no word are left as they are"),
-            What::List => format!(in alloc; "a list of initialisers '{word}' is left as it is"),
-            What::Subtypes => format!(in alloc;
+            Topic::Bytes => format!(in alloc; "bytes that begin no word are left as they are"),
+            Topic::List => format!(in alloc; "a list of initialisers '{word}' is left as it is"),
+            Topic::Subtypes => format!(in alloc;
                 "the subtypes of 'mtype' are blanked: all its names are of one type here"
             ),
-            What::Subtype => format!(in alloc; "a subtype of mtype '{word}' is left as it is"),
-            What::Stepped => format!(in alloc;
+            Topic::Subtype => format!(in alloc; "a subtype of mtype '{word}' is left as it is"),
+            Topic::Stepped => format!(in alloc;
                 "a declaration that is a step in Spin is an assignment here"
             ),
-            What::Valued => format!(in alloc;
+            Topic::Valued => format!(in alloc;
                 "the values of a list of initialisers are set by one more step, which is the first"
             ),
-            What::Divided => format!(in alloc;
+            Topic::Divided => format!(in alloc;
                 "'{word}' is declared in several blocks or calls: each has a name of its own"
             ),
-            What::Labelled => format!(in alloc;
+            Topic::Labelled => format!(in alloc;
                 "'{word}' is a label of several calls: each has a name of its own"
             ),
-            What::Loop => format!(in alloc;
+            Topic::Loop => format!(in alloc;
                 "a 'for' over '{word}' is left as it is: that is no array with one number for its size"
             ),
         }
@@ -146,9 +146,9 @@ impl<'t> Kind<'t> {
 }
 
 // The word by which a kind is known: of a line for a preprocessor its first word, and of bytes, characters and blanked subtypes none.
-fn key(what: What, word: &[u8]) -> &[u8] {
+fn key(what: Topic, word: &[u8]) -> &[u8] {
     match what {
-        What::Apostrophe | What::Bytes | What::Subtypes | What::Stepped | What::Valued => b"",
+        Topic::Apostrophe | Topic::Bytes | Topic::Subtypes | Topic::Stepped | Topic::Valued => b"",
         _ => match word {
             [b'#', ..] => directive(word),
             _ => word,
@@ -188,7 +188,7 @@ impl<'t> Kinds<'t> {
     }
 
     // A kind that was not there.
-    fn add_kind(&mut self, what: What, word: &'t [u8], place: Span) {
+    fn add_kind(&mut self, what: Topic, word: &'t [u8], place: Span) {
         let mut kind = Kind {
             what,
             word,
@@ -202,7 +202,7 @@ impl<'t> Kinds<'t> {
     }
 
     /// One place more of what is said of a word.
-    pub fn add(&mut self, what: What, word: &'t [u8], first: u64, last: u64) {
+    pub fn add(&mut self, what: Topic, word: &'t [u8], first: u64, last: u64) {
         let word = key(what, word);
         let place = Span { first, last };
         for kind in self.kinds.iter_mut() {

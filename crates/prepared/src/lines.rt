@@ -8,7 +8,7 @@ use std::alloc::{AllocError, Global};
 
 /// Which lines of a text are those of its own file, as `prepare::numbering` puts them.
 #[derive(Drop)]
-pub struct Lines<'t> {
+pub struct LineTable<'t> {
     out: Vec<u8>,
     // the model's own file, once a mark has named it
     own: Option<&'t [u8]>,
@@ -34,10 +34,10 @@ fn count(line: &[u8], wanted: u8) -> u64
     count
 }
 
-impl<'t> Lines<'t> {
+impl<'t> LineTable<'t> {
     // The beginning of a text.
-    fn new(alloc: Global) -> Lines<'t> {
-        Lines {
+    fn new(alloc: Global) -> LineTable<'t> {
+        LineTable {
             out: Vec::new(alloc),
             own: None,
             included: None,
@@ -110,7 +110,7 @@ impl<'t> Lines<'t> {
 /// A table of the lines of included files in what is prepared of a text: each row has the line there, how many form feeds stand on it before, and
 /// the line of the file that goes on from there, with its name.
 pub fn lines_of<'t>(alloc: Global, text: &'t [u8]) -> Result<Vec<u8>, AllocError> {
-    let mut lines: Lines<'t> = Lines::new(alloc);
+    let mut lines: LineTable<'t> = LineTable::new(alloc);
     let bare = if text.starts_with(b"\xEF\xBB\xBF") {
         &text[3..]
     } else {
@@ -122,6 +122,6 @@ pub fn lines_of<'t>(alloc: Global, text: &'t [u8]) -> Result<Vec<u8>, AllocError
             None => lines.plain(line)?,
         }
     }
-    let Lines { out, .. } = lines;
+    let LineTable { out, .. } = lines;
     Ok(out)
 }

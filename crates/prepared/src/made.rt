@@ -13,25 +13,25 @@ ghost use Rattle.record_messages.specs.Writing.{recorded};
 ghost use Rattle.prepared.specs.Made.{rewritten, TellsTokens, IsDivided, IsMadeOf, IsPreparedOf};
 
 use crate::given::How;
-use crate::kinds::What;
+use crate::kinds::Topic;
 use crate::lines::lines_of;
 use crate::model::{Left, model_text};
-use crate::report::{Called, Report};
+use crate::report::{Called, PreparingReport};
 use crate::unprepared::Unprepared;
 use called_macros::origin::Origin;
 use computed_sizes::writing::with_sizes;
 use declared_steps::writing::{Stepped, with_steps};
-use listed_values::writing::{Valued, with_values};
+use listed_values::writing::{ValuedText, with_values};
 use mtype_commas::writing::with_commas;
 use names_apart::apart::{DividedText, divide_names};
-use names_apart::candidates::{Sort, candidates};
+use names_apart::candidates::{DividedSort, candidates};
 use pml_token::token::{Kind, same_kind};
 use prepare::MOST_BYTES;
 use prepare::changes::{exchanges, respelled};
 use prepare::coding::coded;
 use prepare::numbering::numbered;
 use prepare::spelling::spelled;
-use prepare::stretch::{Form, Stretch};
+use prepare::stretch::{Stretch, StretchForm};
 use prepare::stretches::stretches;
 use record_messages::writing::with_fields;
 use std::alloc::{AllocError, Global};
@@ -54,7 +54,7 @@ pub struct Prepared {
 fn is_token(stretch: &Stretch<'_>) -> bool
     ensures { result ≡ laws.is_token stretch.now }
 {
-    matches!(stretch.form(), Form::Blanked) || !same_kind(stretch.kind(), Kind::LeftOut)
+    matches!(stretch.form(), StretchForm::Blanked) || !same_kind(stretch.kind(), Kind::LeftOut)
 }
 
 // Whether all are.
@@ -81,7 +81,7 @@ struct WithSeparators {
 fn separated<'t>(
     alloc: Global,
     text: &'t [u8],
-    report: &mut Report<'t>,
+    report: &mut PreparingReport<'t>,
 ) -> Result<WithSeparators, AllocError>
     ensures text { IfOk result (λ s. s.text.items ≡ as_spelling.spelled (as_stretches.stretches text.now)) }
     ensures tokens { IfOk result (λ s. s.are_tokens ≡ laws.has_tokens_alone text.now) }
@@ -100,7 +100,7 @@ fn separated<'t>(
 fn exchanged<'t>(
     alloc: Global,
     text: &'t [u8],
-    report: &mut Report<'t>,
+    report: &mut PreparingReport<'t>,
 ) -> Result<Vec<u8>, AllocError>
     ensures { IfOk result (λ v. v.items ≡ laws.exchanged text.now) }
 {
@@ -117,17 +117,17 @@ fn exchanged<'t>(
 fn with_assignments(
     alloc: Global,
     text: Vec<u8>,
-    report: &mut Report<'_>,
+    report: &mut PreparingReport<'_>,
 ) -> Result<Vec<u8>, AllocError>
     ensures { IfOk result (λ v. v.items ≡ stepped (valued text.items)) }
 {
-    let Valued { text, lines } = with_values(alloc, text)?;
+    let ValuedText { text, lines } = with_values(alloc, text)?;
     for line in &lines {
-        report.add(What::Valued, b"", *line);
+        report.add(Topic::Valued, b"", *line);
     }
     let Stepped { text, lines } = with_steps(alloc, text)?;
     for line in &lines {
-        report.add(What::Stepped, b"", *line);
+        report.add(Topic::Stepped, b"", *line);
     }
     Ok(text)
 }
@@ -136,7 +136,7 @@ fn with_assignments(
 fn with_records(
     alloc: Global,
     text: Vec<u8>,
-    report: &mut Report<'_>,
+    report: &mut PreparingReport<'_>,
 ) -> Result<Vec<u8>, AllocError>
     ensures { IfOk result (λ v. v.items ≡ recorded (stepped (valued text.items))) }
 {
@@ -148,7 +148,7 @@ fn with_records(
 fn tell_left<'t>(
     alloc: Global,
     tokens: &[Stretch<'t>],
-    report: &mut Report<'t>,
+    report: &mut PreparingReport<'t>,
 ) -> Result<(), AllocError> {
     if report.has_loops() {
         report.again();
@@ -175,7 +175,7 @@ struct Made {
 fn divided<'t>(
     alloc: Global,
     text: &'t [u8],
-    report: Report<'t>,
+    report: PreparingReport<'t>,
     called: Called<'_>,
 ) -> Result<Made, AllocError>
     ensures { IfOk result (λ m. IsDivided text.now m.text.items) }
@@ -190,8 +190,8 @@ fn divided<'t>(
     let DividedText { text, names } = divide_names(alloc, &names, copy)?;
     for candidate in &names {
         let what = match candidate.sort {
-            Sort::Variables => What::Divided,
-            Sort::Labels => What::Labelled,
+            DividedSort::Variables => Topic::Divided,
+            DividedSort::Labels => Topic::Labelled,
         };
         report.add(what, candidate.name, candidate.line);
     }
@@ -207,7 +207,7 @@ fn divided<'t>(
 fn made_of_separated<'t>(
     alloc: Global,
     text: &'t [u8],
-    report: Report<'t>,
+    report: PreparingReport<'t>,
     called: Called<'_>,
 ) -> Result<Made, AllocError>
     ensures { IfOk result (λ m. IsDivided (recorded (stepped (valued (laws.exchanged text.now)))) m.text.items) }
@@ -226,7 +226,7 @@ fn made_of(alloc: Global, text: &[u8], called: Called<'_>) -> Result<Made, Alloc
 {
     let lines = numbered(alloc, text)?;
     let numbers = coded(alloc, &lines)?;
-    let mut report = Report::new(alloc);
+    let mut report = PreparingReport::new(alloc);
     let separated = separated(alloc, &numbers, &mut report)?;
     let sized = with_sizes(alloc, &separated.text)?;
     let Made {

@@ -7,7 +7,7 @@ ghost use Rattle.prepared.specs.Made.{IsLeftOf};
 
 use crate::disk::Disk;
 use crate::given::How;
-use crate::refused::{Read, tell_notes, unprepared_of};
+use crate::refused::{ReadTexts, tell_notes, unprepared_of};
 use crate::report::Called;
 use crate::unprepared::Unprepared;
 use called_macros::origin::{Origin, has_body};
@@ -69,7 +69,7 @@ fn preprocessed(
 ) -> Result<Left, Unprepared> {
     let alloc = rt.alloc();
     let mut state = State::new(alloc, called.name.as_bytes(), GIVEN)?;
-    let read = Read {
+    let read = ReadTexts {
         text,
         given: &how.given,
     };

@@ -3,9 +3,9 @@
 use crate::disk::bytes_of;
 use crate::shown::{shown, shown_name};
 use crate::unprepared::Unprepared;
-use pml_directives::refusal::{Refusal, Why};
-use pml_directives::state::{Note, Remark, State};
-use pml_macros::atom::{Atom, Place};
+use pml_directives::refusal::{DirectiveRefusal, Why};
+use pml_directives::state::{PlacedRemark, Remark, State};
+use pml_macros::atom::{Atom, FilePlace};
 use pml_macros::trouble::Trouble;
 use source_lines::position::line_of;
 use source_lines::shown::show_line;
@@ -13,13 +13,13 @@ use std::alloc::{AllocError, Global};
 
 /// The texts that were read: the model's own, and the lines that stand for options.
 #[derive(Clone, Copy)]
-pub struct Read<'t> {
+pub struct ReadTexts<'t> {
     pub text: &'t [u8],
     pub given: &'t [u8],
 }
 
 // Where something stands, as it is told: the file, its line and its column.
-fn told_place(alloc: Global, state: &State, place: Place) -> Result<String, AllocError> {
+fn told_place(alloc: Global, state: &State, place: FilePlace) -> Result<String, AllocError> {
     let name = String::from_utf8_lossy(alloc, state.name(place.file))?;
     let name = shown_name(alloc, name.as_str())?;
     let name = name.as_str();
@@ -95,7 +95,7 @@ fn add_own_place(
 }
 
 // The line of a place, with a mark below it.
-fn add_line(text: &[u8], place: Place, out: &mut String) -> Result<(), AllocError> {
+fn add_line(text: &[u8], place: FilePlace, out: &mut String) -> Result<(), AllocError> {
     let offset = place.offset as usize;
     let line = line_of(text, offset);
     let onset = offset.saturating_sub(line.start);
@@ -106,8 +106,8 @@ fn add_line(text: &[u8], place: Place, out: &mut String) -> Result<(), AllocErro
 fn add_its_line(
     rt: &HostRuntime,
     state: &State,
-    read: Read<'_>,
-    place: Place,
+    read: ReadTexts<'_>,
+    place: FilePlace,
     out: &mut String,
 ) -> Result<(), AllocError> {
     match place.file {
@@ -124,8 +124,8 @@ fn add_its_line(
 fn told(
     rt: &HostRuntime,
     state: &State,
-    read: Read<'_>,
-    refusal: Refusal,
+    read: ReadTexts<'_>,
+    refusal: DirectiveRefusal,
 ) -> Result<String, AllocError> {
     let alloc = rt.alloc();
     let mut out = told_place(alloc, state, refusal.place)?;
@@ -147,8 +147,8 @@ fn told(
 pub fn unprepared_of(
     rt: &HostRuntime,
     state: &State,
-    read: Read<'_>,
-    refusal: Refusal,
+    read: ReadTexts<'_>,
+    refusal: DirectiveRefusal,
 ) -> Unprepared {
     if matches!(refusal.why, Why::Memory) || matches!(refusal.why, Why::Call(Trouble::Memory)) {
         return Unprepared::Memory;
@@ -166,8 +166,8 @@ pub fn unprepared_of(
 fn told_note(
     rt: &HostRuntime,
     state: &State,
-    read: Read<'_>,
-    note: &Note,
+    read: ReadTexts<'_>,
+    note: &PlacedRemark,
 ) -> Result<String, AllocError> {
     let alloc = rt.alloc();
     let mut out = told_place(alloc, state, note.place)?;
@@ -185,7 +185,7 @@ fn told_note(
 }
 
 /// Says what a text that is not refused wants to be said. What memory is refused for is left out.
-pub fn tell_notes(rt: &HostRuntime, state: &State, read: Read<'_>) {
+pub fn tell_notes(rt: &HostRuntime, state: &State, read: ReadTexts<'_>) {
     for note in &state.notes {
         if let Ok(words) = told_note(rt, state, read, note) {
             let words = words.as_str();

@@ -2,9 +2,10 @@
 
 ghost use Rattle.std.specs.Prelude.{◌≤◌, length};
 
-use crate::kinds::{Kinds, What};
-use prepare::changes::{Change, Exchange};
-use prepare::stretch::{Form, Remark, Stretch};
+use crate::kinds::{Kinds, Topic};
+use prepare::changed::Changed;
+use prepare::changes::Respelling;
+use prepare::stretch::{Stretch, StretchForm, StretchRemark};
 use std::alloc::Global;
 
 // A block that is blanked: its word, its first line, and the line of the last token of it so far.
@@ -26,7 +27,7 @@ pub struct Called<'c> {
 
 /// What is said of a text that is prepared, as it is read.
 #[derive(Drop)]
-pub struct Report<'t> {
+pub struct PreparingReport<'t> {
     // the line of the next byte
     line: u64,
     block: Option<Block<'t>>,
@@ -49,18 +50,18 @@ fn feeds(text: &[u8]) -> u64
 }
 
 // What kind of thing a token is that is left out.
-fn left_out(token: &[u8]) -> What {
+fn left_out(token: &[u8]) -> Topic {
     match token {
-        [b'\'', ..] => What::Apostrophe,
-        [b, ..] if *b < b' ' || *b > b'~' => What::Bytes,
-        _ => What::LeftOut,
+        [b'\'', ..] => Topic::Apostrophe,
+        [b, ..] if *b < b' ' || *b > b'~' => Topic::Bytes,
+        _ => Topic::LeftOut,
     }
 }
 
-impl<'t> Report<'t> {
+impl<'t> PreparingReport<'t> {
     /// Nothing is said before the first line.
-    pub fn new(alloc: Global) -> Report<'t> {
-        Report {
+    pub fn new(alloc: Global) -> PreparingReport<'t> {
+        PreparingReport {
             line: 1,
             block: None,
             kinds: Kinds::new(alloc),
@@ -73,29 +74,29 @@ impl<'t> Report<'t> {
     fn end_block(&mut self) {
         if let Some(block) = self.block.take() {
             let what = if block.is_closed {
-                What::Blanked
+                Topic::Blanked
             } else {
                 self.is_left = true;
-                What::Unclosed
+                Topic::Unclosed
             };
             self.kinds.add(what, block.word, block.first, block.last);
         }
     }
 
-    fn left(&mut self, what: What, token: &'t [u8]) {
+    fn left(&mut self, what: Topic, token: &'t [u8]) {
         self.is_left = true;
         self.kinds.add(what, token, self.line, self.line);
     }
 
     fn remark(&mut self, stretch: &Stretch<'t>) {
         match stretch.remark() {
-            Remark::Nothing => {}
-            Remark::BlockEnds => {
+            StretchRemark::Nothing => {}
+            StretchRemark::BlockEnds => {
                 if let Some(block) = &mut self.block {
                     block.is_closed = true;
                 }
             }
-            Remark::BlockBegins => {
+            StretchRemark::BlockBegins => {
                 self.block = Some(Block {
                     word: stretch.token(),
                     first: self.line,
@@ -103,17 +104,17 @@ impl<'t> Report<'t> {
                     is_closed: false,
                 });
             }
-            Remark::LeftOut => self.left(left_out(stretch.token()), stretch.token()),
+            StretchRemark::LeftOut => self.left(left_out(stretch.token()), stretch.token()),
             // it may become a value, or be set by a step
-            Remark::List => {}
+            StretchRemark::List => {}
         }
     }
 
     /// Reads one stretch more.
     pub fn stretch(&mut self, stretch: &Stretch<'t>) {
         self.line = self.line.saturating_add(feeds(stretch.gap()));
-        let is_blanked = matches!(stretch.form(), Form::Blanked);
-        if !is_blanked || matches!(stretch.remark(), Remark::BlockBegins) {
+        let is_blanked = matches!(stretch.form(), StretchForm::Blanked);
+        if !is_blanked || matches!(stretch.remark(), StretchRemark::BlockBegins) {
             self.end_block();
         }
         self.remark(stretch);
@@ -130,19 +131,19 @@ impl<'t> Report<'t> {
     }
 
     /// Reads one token more, with what becomes of it.
-    pub fn exchange(&mut self, exchange: &Exchange<'t>) {
+    pub fn exchange(&mut self, exchange: &Changed<'t, Respelling>) {
         self.line = self.line.saturating_add(feeds(exchange.gap()));
         let token = exchange.token();
         match exchange.change() {
-            Change::Blanked => self.kinds.add(What::Subtypes, token, self.line, self.line),
-            Change::Left => {
+            Respelling::Blanked => self.kinds.add(Topic::Subtypes, token, self.line, self.line),
+            Respelling::Left => {
                 if token == b":".as_slice() {
-                    self.left(What::Subtype, token);
+                    self.left(Topic::Subtype, token);
                 } else {
                     self.has_loops = true;
                 }
             }
-            Change::Kept | Change::Colon | Change::Range(_) => {}
+            Respelling::Kept | Respelling::Colon | Respelling::Range(_) => {}
         }
         self.line = self.line.saturating_add(feeds(token));
     }
@@ -153,11 +154,11 @@ impl<'t> Report<'t> {
     }
 
     /// Reads one token more, of a text in which the loops over messages are made: the other ones are left.
-    pub fn left_loop(&mut self, exchange: &Exchange<'t>) {
+    pub fn left_loop(&mut self, exchange: &Changed<'t, Respelling>) {
         self.line = self.line.saturating_add(feeds(exchange.gap()));
         let token = exchange.token();
-        if matches!(exchange.change(), Change::Left) && token != b":".as_slice() {
-            self.left(What::Loop, token);
+        if matches!(exchange.change(), Respelling::Left) && token != b":".as_slice() {
+            self.left(Topic::Loop, token);
         }
         self.line = self.line.saturating_add(feeds(token));
     }
@@ -165,14 +166,14 @@ impl<'t> Report<'t> {
     /// Reads one token more, of a text in which lists of initialisers are values where they may: the other ones are left.
     pub fn left_list(&mut self, stretch: &Stretch<'t>) {
         self.line = self.line.saturating_add(feeds(stretch.gap()));
-        if matches!(stretch.remark(), Remark::List) {
-            self.left(What::List, stretch.token());
+        if matches!(stretch.remark(), StretchRemark::List) {
+            self.left(Topic::List, stretch.token());
         }
         self.line = self.line.saturating_add(feeds(stretch.token()));
     }
 
     /// Something is made otherwise on a line.
-    pub fn add(&mut self, what: What, word: &'t [u8], line: u64) {
+    pub fn add(&mut self, what: Topic, word: &'t [u8], line: u64) {
         self.kinds.add(what, word, line, line);
     }
 

@@ -3,8 +3,8 @@ use Rattle.std.specs.Prelude.{◌≡◌, ℕ, Bool, ◌==◌, ◌&&◌, if◌the
 use Rattle.prepared.specs.Statuses.{IsStatusOfUnprepared}
 use Rattle.program_files.specs.declared.fault.NoFile.{NoFile}
 use Rattle.program_files.specs.declared.fault.NoFile.TheVariants as no
-use Rattle.program_files.specs.declared.held.Entry.{Entry}
-use Rattle.program_files.specs.declared.held.Role.{Role}
+use Rattle.program_files.specs.declared.held.RunFile.{RunFile}
+use Rattle.program_files.specs.declared.held.FileRole.{FileRole}
 use Rattle.program_files.specs.declared.identity.Identity.{Identity}
 
 -- both are one file: on one device, with one number there
@@ -12,12 +12,12 @@ abbrev pub is_file : (a b : Identity) → Bool
 is_file a b = (a.device == b.device) && (a.number == b.number)
 
 -- with a file more, where it is one
-abbrev pub with_file : List Entry → Option Identity → Role → List Entry
+abbrev pub with_file : List RunFile → Option Identity → FileRole → List RunFile
 with_file entries None role = entries
 with_file entries (Some file) role = entries ++ record { file = file; role = role } ∷ []
 
 -- what a file is in a run that has these: the first that it is
-abbrev pub held_as : Identity → List Entry → Option Role
+abbrev pub held_as : Identity → List RunFile → Option FileRole
 held_as file [] = None
 held_as file (entry ∷ entries) = if is_file entry.file file then Some entry.role else held_as file entries
 

@@ -1,6 +1,6 @@
 //! Why a file cannot be used.
 
-use crate::held::Role;
+use crate::held::FileRole;
 use prepared::unprepared::Unprepared;
 use std::alloc::{AllocError, Global};
 use std::io;
@@ -12,7 +12,7 @@ pub enum NoFile {
     CannotRead(String, io::Error),
     CannotWrite(String, io::Error),
     /// It would be emptied, and it is another one of the run.
-    WouldEmpty(String, Role),
+    WouldEmpty(String, FileRole),
     /// Nothing is prepared of it.
     Unprepared(Unprepared),
     Memory,

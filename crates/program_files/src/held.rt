@@ -8,7 +8,7 @@ use std::alloc::{AllocError, Global};
 
 /// What a file is in a run.
 #[derive(Clone, Copy, Debug, PartialEq, Eq)]
-pub enum Role {
+pub enum FileRole {
     /// The text, or what it was prepared of.
     Model,
     /// The table of the lines of included files.
@@ -20,32 +20,32 @@ pub enum Role {
     Page,
 }
 
-impl Role {
+impl FileRole {
     /// What it is called.
     pub fn words(self) -> &'static str {
         match self {
-            Role::Model => "model",
-            Role::Lines => "lines",
-            Role::Choices => "choices",
-            Role::Trail => "trail",
-            Role::Output => "output",
-            Role::Record => "record",
-            Role::Page => "page",
+            FileRole::Model => "model",
+            FileRole::Lines => "lines",
+            FileRole::Choices => "choices",
+            FileRole::Trail => "trail",
+            FileRole::Output => "output",
+            FileRole::Record => "record",
+            FileRole::Page => "page",
         }
     }
 }
 
 /// A file of a run.
 #[derive(Clone, Copy)]
-pub struct Entry {
+pub struct RunFile {
     pub file: Identity,
-    pub role: Role,
+    pub role: FileRole,
 }
 
 /// The files that a run has.
 #[derive(Drop)]
 pub struct Held {
-    pub entries: Vec<Entry>,
+    pub entries: Vec<RunFile>,
 }
 
 impl Held {
@@ -59,18 +59,18 @@ impl Held {
     }
 
     /// Keeps a file that is there, and what it is.
-    pub fn add(&mut self, file: Option<Identity>, role: Role) -> Result<(), AllocError>
+    pub fn add(&mut self, file: Option<Identity>, role: FileRole) -> Result<(), AllocError>
         ensures ok { OnOk result (self.new.entries.items ≡ with_file self.old.entries.items file role) }
         ensures err { OnErr result (self.new.entries.items ≡ self.old.entries.items) }
     {
         if let Some(file) = file {
-            self.entries.push(Entry { file, role })?;
+            self.entries.push(RunFile { file, role })?;
         }
         Ok(())
     }
 
     /// What a file is in the run, if it is one of these: the first that it is.
-    pub fn role_of(&self, file: Identity) -> Option<Role>
+    pub fn role_of(&self, file: Identity) -> Option<FileRole>
         ensures { result ≡ held_as file self.now.entries.items }
     {
         let mut rest = self.entries.as_slice();

@@ -51,26 +51,26 @@ impl Read for Input {
 
 /// What is read, and which regular file it is, if it is one.
 #[derive(Drop)]
-pub struct Choices {
+pub struct ChoiceInput {
     pub input: Input,
     pub file: Option<Identity>,
 }
 
 /// The choices of a file of this name.
-pub fn choices_in(rt: &HostRuntime, name: &str) -> Result<Choices, NoFile> {
+pub fn choices_in(rt: &HostRuntime, name: &str) -> Result<ChoiceInput, NoFile> {
     let opened = match fs::open(rt, name) {
         Ok(file) => file,
         Err(error) => return Err(not_opened(rt.alloc(), name, error)),
     };
     let file = identity_of(&opened);
     if file.is_none() {
-        return Ok(Choices {
+        return Ok(ChoiceInput {
             input: Input::Direct(opened),
             file,
         });
     }
     match BufReader::new(rt.alloc(), opened) {
-        Ok(reader) => Ok(Choices {
+        Ok(reader) => Ok(ChoiceInput {
             input: Input::Ahead(reader),
             file,
         }),

@@ -2,7 +2,7 @@
 
 use crate::fault::NoFile;
 use crate::identity::Identity;
-use crate::texts::{Text, model_of, text_of};
+use crate::texts::{FileText, model_of, text_of};
 use called_macros::origin::Origin;
 use prepare::MOST_BYTES;
 use prepared::given::How;
@@ -32,7 +32,7 @@ pub struct Model {
 
 /// What the words of a command line ask of a model's file.
 #[derive(Clone, Copy)]
-pub struct Asked<'a> {
+pub struct ModelOptions<'a> {
     pub file: &'a str,
     /// What the model is called.
     pub name: &'a str,
@@ -62,7 +62,7 @@ fn prepared_text(
     rt: &HostRuntime,
     called: Called<'_>,
     how: &How,
-    text: Text,
+    text: FileText,
 ) -> Result<Model, Unprepared> {
     let prepared = prepared_and_told(rt, called, how, text.bytes.as_slice())?;
     let own = Own {
@@ -78,7 +78,11 @@ fn prepared_text(
 }
 
 // The model of a file that is prepared.
-fn prepared_model(rt: &HostRuntime, program: &str, asked: Asked<'_>) -> Result<Model, NoFile> {
+fn prepared_model(
+    rt: &HostRuntime,
+    program: &str,
+    asked: ModelOptions<'_>,
+) -> Result<Model, NoFile> {
     let how = How::with(rt.alloc(), asked.no_cpp, asked.defines, asked.folders)?;
     let text = text_of(rt, asked.file, MOST_READ)?;
     let called = Called {
@@ -90,11 +94,11 @@ fn prepared_model(rt: &HostRuntime, program: &str, asked: Asked<'_>) -> Result<M
 }
 
 /// The model of a file, prepared if that is asked for.
-pub fn model_in(rt: &HostRuntime, program: &str, asked: Asked<'_>) -> Result<Model, NoFile> {
+pub fn model_in(rt: &HostRuntime, program: &str, asked: ModelOptions<'_>) -> Result<Model, NoFile> {
     if asked.prepare {
         return prepared_model(rt, program, asked);
     }
-    let Text { bytes, file } = model_of(rt, asked.file)?;
+    let FileText { bytes, file } = model_of(rt, asked.file)?;
     Ok(Model {
         bytes,
         file,

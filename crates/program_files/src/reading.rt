@@ -7,12 +7,12 @@ use crate::input::Input;
 use devices::{Next, Source};
 use std::io;
 use std::io::Read;
-use streams::followed::Followed;
+use streams::followed::FollowedReader;
 
 /// The choices of a run. Behind their end, and behind a failure, they give no byte more.
 #[derive(Drop)]
 pub struct ReadChoices {
-    pub reader: Followed<Input>,
+    pub reader: FollowedReader<Input>,
     pub is_over: bool,
     pub has_failed: bool,
     /// Why they failed.
@@ -21,7 +21,7 @@ pub struct ReadChoices {
 
 impl ReadChoices {
     /// Of which nothing was read yet.
-    pub fn new(reader: Followed<Input>) -> ReadChoices
+    pub fn new(reader: FollowedReader<Input>) -> ReadChoices
         ensures over { result.is_over ≡ false }
         ensures failed { result.has_failed ≡ false }
     {

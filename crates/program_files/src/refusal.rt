@@ -9,14 +9,14 @@ use crate::texts::{source_if_named, source_of};
 use called_macros::origin::{Origin, called_at};
 use called_macros::told::{name_of, push_called, push_its_line};
 use diagnostics::Refusal;
-use explain::{Explanation, Source, explain_beside, explanation_of, included_file};
+use explain::{AuthorSource, Explanation, explain_beside, explanation_of, included_file};
 use pml_macros::atom::Atom;
 use std::alloc::{AllocError, Global};
 use std::str;
 
 /// What an explanation shows: what the model is called, its text, and the names of the files that it was prepared of.
 #[derive(Clone, Copy)]
-pub struct Shown<'s> {
+pub struct ExplainedText<'s> {
     pub name: &'s str,
     pub text: &'s [u8],
     pub source: &'s Option<String>,
@@ -113,7 +113,7 @@ pub fn explained_beside(
 {
     let included = included_text(rt, text, own.lines.as_slice(), refusal)?;
     let included = included.unwrap_or(Vec::new(rt.alloc()));
-    let source = Source {
+    let source = AuthorSource {
         text: own.text.as_slice(),
         lines: own.lines.as_slice(),
         included: included.as_slice(),
@@ -124,12 +124,16 @@ pub fn explained_beside(
 }
 
 /// Why the model of a text is refused, and where, with the lines of the files that are named for it.
-pub fn explained(rt: &HostRuntime, shown: Shown<'_>, refusal: Refusal) -> Result<String, NoFile> {
+pub fn explained(
+    rt: &HostRuntime,
+    shown: ExplainedText<'_>,
+    refusal: Refusal,
+) -> Result<String, NoFile> {
     let own = source_if_named(rt, shown.source)?;
     let lines = source_if_named(rt, shown.lines)?.unwrap_or(Vec::new(rt.alloc()));
     let included = included_text(rt, shown.text, lines.as_slice(), refusal)?;
     let included = included.unwrap_or(Vec::new(rt.alloc()));
-    let source = Source {
+    let source = AuthorSource {
         text: match &own {
             Some(own) => own.as_slice(),
             None => shown.text,

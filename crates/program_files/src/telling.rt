@@ -8,7 +8,7 @@ use explain::shown_file;
 use prepared::unprepared::tell_unprepared;
 use std::alloc::{AllocError, Global};
 use std::io;
-use streams::followed::Followed;
+use streams::followed::FollowedReader;
 
 // Says why a file failed, where that is asked for.
 fn explain_file(rt: &HostRuntime, program: &str, is_asked: bool, name: &str, error: &io::Error) {
@@ -95,7 +95,7 @@ pub fn tell_misfit(
     rt: &HostRuntime,
     program: &str,
     name: &str,
-    choices: &Followed<Input>,
+    choices: &FollowedReader<Input>,
 ) -> Result<(), AllocError> {
     let name = shown_file(rt.alloc(), name)?;
     let line = shown(rt.alloc(), choices.text())?;
@@ -110,7 +110,7 @@ pub fn tell_cut(
     rt: &HostRuntime,
     program: &str,
     name: &str,
-    choices: &Followed<Input>,
+    choices: &FollowedReader<Input>,
 ) -> Result<(), AllocError> {
     let name = shown_file(rt.alloc(), name)?;
     let line = shown(rt.alloc(), choices.text())?;

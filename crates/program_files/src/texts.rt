@@ -16,13 +16,13 @@ pub const MOST_SOURCE: u64 = 8_388_608;
 
 /// The text of a file, and which regular file it is, if it is one.
 #[derive(Drop)]
-pub struct Text {
+pub struct FileText {
     pub bytes: Vec<u8>,
     pub file: Option<Identity>,
 }
 
 /// The first bytes of a file of this name, at most so many.
-pub fn text_of(rt: &HostRuntime, name: &str, most: u64) -> Result<Text, NoFile> {
+pub fn text_of(rt: &HostRuntime, name: &str, most: u64) -> Result<FileText, NoFile> {
     let opened = match fs::open(rt, name) {
         Ok(file) => file,
         Err(error) => return Err(not_opened(rt.alloc(), name, error)),
@@ -30,18 +30,18 @@ pub fn text_of(rt: &HostRuntime, name: &str, most: u64) -> Result<Text, NoFile> 
     let file = identity_of(&opened);
     let mut bytes = Vec::new(rt.alloc());
     match opened.take(most).read_to_end(&mut bytes) {
-        Ok(_) => Ok(Text { bytes, file }),
+        Ok(_) => Ok(FileText { bytes, file }),
         Err(error) => Err(not_read(rt.alloc(), name, error)),
     }
 }
 
 /// The model of this name, as it is read from its file: a byte more at most than a model may have.
-pub fn model_of(rt: &HostRuntime, name: &str) -> Result<Text, NoFile> {
+pub fn model_of(rt: &HostRuntime, name: &str) -> Result<FileText, NoFile> {
     text_of(rt, name, MOST_READ)
 }
 
 // The bytes of a text that need not be there: none, unless memory was refused.
-fn bytes_if_any(text: Result<Text, NoFile>) -> Result<Option<Vec<u8>>, NoFile> {
+fn bytes_if_any(text: Result<FileText, NoFile>) -> Result<Option<Vec<u8>>, NoFile> {
     match text {
         Ok(text) => Ok(Some(text.bytes)),
         Err(NoFile::Memory) => Err(NoFile::Memory),

@@ -8,25 +8,25 @@ use std::io;
 
 /// A program whose command line is read.
 #[derive(Clone, Copy, Debug, PartialEq, Eq)]
-pub enum Program {
+pub enum FrontEnd {
     Play,
     View,
 }
 
-impl Program {
+impl FrontEnd {
     /// What it is called.
     pub fn name(self) -> &'static str {
         match self {
-            Program::Play => "spinplay",
-            Program::View => "spinview",
+            FrontEnd::Play => "spinplay",
+            FrontEnd::View => "spinview",
         }
     }
 
     // How every command line of it is.
     fn usage(self) -> &'static str {
         match self {
-            Program::Play => "Usage: spinplay [OPTIONS] <MODEL>",
-            Program::View => "Usage: spinview [OPTIONS] <MODEL>",
+            FrontEnd::Play => "Usage: spinplay [OPTIONS] <MODEL>",
+            FrontEnd::View => "Usage: spinview [OPTIONS] <MODEL>",
         }
     }
 }
@@ -41,27 +41,27 @@ const OPTIONS_OF_CPP: &str = "U";
 const OPTIONS_OF_PLAY: &str = "pgliT";
 
 // Whole words that another program has.
-const WHOLE_WORDS: [(Program, &str, &str); 20] = [
-    (Program::Play, "view", PREPARE_AND_VIEW),
-    (Program::Play, "play", PREPARE_AND_PLAY),
-    (Program::Play, "trail", TRAIL),
-    (Program::Play, "json", JSON),
-    (Program::Play, "chart", CHART),
-    (Program::Play, "page", PAGE),
-    (Program::Play, "random", RANDOM),
-    (Program::View, "view", PREPARE_AND_VIEW),
-    (Program::View, "play", PREPARE_AND_PLAY),
-    (Program::View, "convert", CONVERT),
-    (Program::View, "check", CHECK),
-    (Program::Play, "seed", RANDOM),
-    (Program::Play, "steps", LIMIT),
-    (Program::Play, "limit", LIMIT),
-    (Program::View, "seed", RANDOM),
-    (Program::View, "until", IN_SESSION),
-    (Program::View, "why", IN_SESSION),
-    (Program::View, "state", IN_SESSION),
-    (Program::View, "run", IN_SESSION),
-    (Program::View, "last", IN_SESSION),
+const WHOLE_WORDS: [(FrontEnd, &str, &str); 20] = [
+    (FrontEnd::Play, "view", PREPARE_AND_VIEW),
+    (FrontEnd::Play, "play", PREPARE_AND_PLAY),
+    (FrontEnd::Play, "trail", TRAIL),
+    (FrontEnd::Play, "json", JSON),
+    (FrontEnd::Play, "chart", CHART),
+    (FrontEnd::Play, "page", PAGE),
+    (FrontEnd::Play, "random", RANDOM),
+    (FrontEnd::View, "view", PREPARE_AND_VIEW),
+    (FrontEnd::View, "play", PREPARE_AND_PLAY),
+    (FrontEnd::View, "convert", CONVERT),
+    (FrontEnd::View, "check", CHECK),
+    (FrontEnd::Play, "seed", RANDOM),
+    (FrontEnd::Play, "steps", LIMIT),
+    (FrontEnd::Play, "limit", LIMIT),
+    (FrontEnd::View, "seed", RANDOM),
+    (FrontEnd::View, "until", IN_SESSION),
+    (FrontEnd::View, "why", IN_SESSION),
+    (FrontEnd::View, "state", IN_SESSION),
+    (FrontEnd::View, "run", IN_SESSION),
+    (FrontEnd::View, "last", IN_SESSION),
 ];
 
 const PREPARE_AND_VIEW: &str = "spinview prepares a model and shows it: spinview --prepare MODEL";
@@ -90,7 +90,7 @@ const CONVERT: &str = "spinplay has it: spinplay --convert MODEL";
 const CHECK: &str = "spinplay has it: spinplay --check MODEL";
 
 // What is told of a letter in place of the tip to hand it on as a value.
-fn tip_of(alloc: Global, program: Program, letter: char) -> Result<String, AllocError> {
+fn tip_of(alloc: Global, program: FrontEnd, letter: char) -> Result<String, AllocError> {
     let name = program.name();
     if OPTIONS_OF_CPP.contains(letter) {
         format!(in alloc;
@@ -114,7 +114,7 @@ fn tip_of(alloc: Global, program: Program, letter: char) -> Result<String, Alloc
 }
 
 // What is shown of an unexpected word: an option of Spin that has no meaning here is to be left out, not to be handed on as a value.
-fn without_letters(alloc: Global, program: Program, text: String) -> Result<String, AllocError> {
+fn without_letters(alloc: Global, program: FrontEnd, text: String) -> Result<String, AllocError> {
     let letters = OPTIONS_OF_SPIN.chars().chain(OPTIONS_OF_CPP.chars());
     for letter in letters.chain(OPTIONS_OF_PLAY.chars()) {
         let tip = format!(in alloc; "to pass '-{letter}' as a value, use '-- -{letter}'")?;
@@ -130,7 +130,7 @@ fn without_letters(alloc: Global, program: Program, text: String) -> Result<Stri
 }
 
 // The same of a whole word that another program has.
-fn without_words(alloc: Global, program: Program, text: String) -> Result<String, AllocError> {
+fn without_words(alloc: Global, program: FrontEnd, text: String) -> Result<String, AllocError> {
     for (other, word, told) in WHOLE_WORDS {
         let tip = format!(in alloc; "to pass '--{word}' as a value, use '-- --{word}'")?;
         if other == program && text.contains(tip.as_str()) {
@@ -141,15 +141,15 @@ fn without_words(alloc: Global, program: Program, text: String) -> Result<String
 }
 
 // The same of the file of a trail that stands without its option.
-fn with_trail(alloc: Global, program: Program, text: String) -> Result<String, AllocError> {
+fn with_trail(alloc: Global, program: FrontEnd, text: String) -> Result<String, AllocError> {
     match program {
-        Program::View => text.replace(alloc, ".trail' found\n", TRAIL_ALONE),
-        Program::Play => Ok(text),
+        FrontEnd::View => text.replace(alloc, ".trail' found\n", TRAIL_ALONE),
+        FrontEnd::Play => Ok(text),
     }
 }
 
 // A mistake in the words, with the usage of every command line in place of one with the words that were read.
-fn with_usage(alloc: Global, program: Program, error: &clap::Error) -> Result<String, AllocError> {
+fn with_usage(alloc: Global, program: FrontEnd, error: &clap::Error) -> Result<String, AllocError> {
     let told = format!(in alloc; "{error}")?;
     let head = format!(in alloc; "Usage: {} ", program.name())?;
     let mut text = String::new(alloc);
@@ -165,14 +165,14 @@ fn with_usage(alloc: Global, program: Program, error: &clap::Error) -> Result<St
 }
 
 // What is shown of a mistake in the words.
-fn mistake(alloc: Global, program: Program, error: &clap::Error) -> Result<String, AllocError> {
+fn mistake(alloc: Global, program: FrontEnd, error: &clap::Error) -> Result<String, AllocError> {
     let told = with_usage(alloc, program, error)?;
     let told = without_words(alloc, program, without_letters(alloc, program, told)?)?;
     with_trail(alloc, program, told)
 }
 
 // Shows a mistake in the words, or help.
-fn shown_words(rt: &HostRuntime, program: Program, error: &clap::Error) -> io::Result<()> {
+fn shown_words(rt: &HostRuntime, program: FrontEnd, error: &clap::Error) -> io::Result<()> {
     if !error.use_stderr() {
         return error.print(rt);
     }
@@ -184,7 +184,7 @@ fn shown_words(rt: &HostRuntime, program: Program, error: &clap::Error) -> io::R
 
 /// Says what is wrong with the words, or helps, and answers the status. Help goes to standard output, and a mistake in the words to standard
 /// error.
-pub fn tell_words(rt: &HostRuntime, program: Program, error: &clap::Error) -> u8
+pub fn tell_words(rt: &HostRuntime, program: FrontEnd, error: &clap::Error) -> u8
     ensures { IsStatusOfWords error.now result }
 {
     let name = program.name();

@@ -6,17 +6,17 @@ use Rattle.pml_token.specs.declared.token.Kind.{Kind}
 use Rattle.pml_token.specs.declared.token.Kind.TheVariants as kind
 use Rattle.pml_token.specs.Word.{same_kind}
 use Rattle.prepare.specs.Written.{Written}
-use Rattle.record_messages.specs.declared.place.Place.{Place}
-use Rattle.record_messages.specs.declared.place.Place.TheVariants as place
+use Rattle.record_messages.specs.declared.place.MessagePlace.{MessagePlace}
+use Rattle.record_messages.specs.declared.place.MessagePlace.TheVariants as place
 use Rattle.record_messages.specs.declared.changes.TheConstants.{MOST_LOOPS}
-use Rattle.record_messages.specs.declared.changes.Change.{Change}
-use Rattle.record_messages.specs.declared.changes.Change.TheVariants as change
+use Rattle.record_messages.specs.declared.changes.MessageChange.{MessageChange}
+use Rattle.record_messages.specs.declared.changes.MessageChange.TheVariants as change
 use Rattle.record_messages.specs.Member.{Member}
 use Rattle.record_messages.specs.Members.{is_empty, is_record, either}
-use Rattle.record_messages.specs.Variable.{Variable}
+use Rattle.record_messages.specs.DeclaredName.{DeclaredName}
 use Rattle.record_messages.specs.Variables.{begins_with, record_of}
 use Rattle.record_messages.specs.Places.{behind}
-use Rattle.record_messages.specs.Changed.{Loop, Changed}
+use Rattle.record_messages.specs.MessageToken.{Loop, MessageToken}
 
 abbrev pub is_in : Written → Bool
 is_in t = same_kind t.kind kind.Name && bytes_eq t.token (codes "in")
@@ -39,7 +39,7 @@ abbrev pub ends_head : List Written → Bool
 ends_head ts = closes ts || is_indexed ts
 
 -- whether these are `(` and a record
-abbrev pub begins_head : List Variable → Written → Written → Bool
+abbrev pub begins_head : List DeclaredName → Written → Written → Bool
 begins_head vs o v = same_kind o.kind kind.OpenParen && (same_kind v.kind kind.Name && not (is_empty (record_of vs v.token)))
 
 -- whether these are `in` and a channel
@@ -47,12 +47,12 @@ abbrev pub goes_over : Written → Written → Bool
 goes_over i c = is_in i && same_kind c.kind kind.Name
 
 -- whether `(`, a record, `in`, a channel and a body stand here
-abbrev pub opens_loop : List Variable → List Written → Bool
+abbrev pub opens_loop : List DeclaredName → List Written → Bool
 opens_loop vs (o ∷ v ∷ i ∷ c ∷ ts) = begins_head vs o v && (goes_over i c && ends_head ts)
 opens_loop vs _ = false
 
 -- whether a token begins a loop over messages, where n are made before it: behind a label none is
-abbrev pub is_loop : List Variable → ℕ → Kind → Kind → List Written → Bool
+abbrev pub is_loop : List DeclaredName → ℕ → Kind → Kind → List Written → Bool
 is_loop vs n last k ts = (same_kind k kind.For && not (same_kind last kind.Colon)) && (nat_lt n MOST_LOOPS && opens_loop vs ts)
 
 -- whether a name stands alone: it is no field, and nothing of it is selected
@@ -60,19 +60,19 @@ abbrev pub is_alone : Kind → List Written → Bool
 is_alone last ts = not (same_kind last kind.Dot) && (not (begins_with kind.Dot ts) && not (begins_with kind.OpenBracket ts))
 
 -- a record in a message is its fields
-abbrev pub change_of_sent : List Variable → Kind → Written → List Written → Change
+abbrev pub change_of_sent : List DeclaredName → Kind → Written → List Written → MessageChange
 change_of_sent vs last t ts =
     if same_kind t.kind kind.Name && (is_alone last ts && not (is_empty (record_of vs t.token))) then change.Fields else change.Kept
 
 -- and among the types of messages it is their types
-abbrev pub change_of_type : List Member → Written → Change
+abbrev pub change_of_type : List Member → Written → MessageChange
 change_of_type ms t = if same_kind t.kind kind.Name && is_record ms t.token then change.Types else change.Kept
 
-abbrev pub change_of_channel : Kind → Change
+abbrev pub change_of_channel : Kind → MessageChange
 change_of_channel k = if same_kind k kind.CloseParen then change.Ended else change.Kept
 
 -- what becomes of a token that begins no loop over messages, where `ts` stand behind it
-abbrev pub change_at : List Member → List Variable → Place → Kind → Written → List Written → Change
+abbrev pub change_at : List Member → List DeclaredName → MessagePlace → Kind → Written → List Written → MessageChange
 change_at ms vs (place.Sent n) last t ts = change_of_sent vs last t ts
 change_at ms vs place.Types last t ts = change_of_type ms t
 change_at ms vs place.Counted last t ts = change.Counter
@@ -81,7 +81,7 @@ change_at ms vs place.Over last t ts = change_of_channel t.kind
 change_at ms vs place.Entered last t ts = change.Turned
 change_at ms vs _ last t ts = change.Kept
 
-abbrev pub change_or_loop : Bool → Change → Change
+abbrev pub change_or_loop : Bool → MessageChange → MessageChange
 change_or_loop b c = if b then change.Declared else c
 
 abbrev pub count : Bool → ℕ → ℕ
@@ -106,7 +106,7 @@ loop_behind b l ts =
     record { number = count b l.number; name = either b (variable_at ts) l.name; channel = either b (channel_at ts) l.channel; index = either b (index_at ts) l.index }
 
 -- what becomes of the rest of the stretches, where `l` is the last loop over messages
-abbrev pub changes_by : List Member → List Variable → Place → Kind → Loop → List Written → List Changed
+abbrev pub changes_by : List Member → List DeclaredName → MessagePlace → Kind → Loop → List Written → List MessageToken
 changes_by ms vs p last l [] = []
 changes_by ms vs p last l (t ∷ ts) =
     let begins = is_loop vs l.number last t.kind ts in
@@ -115,5 +115,5 @@ changes_by ms vs p last l (t ∷ ts) =
     ∷ changes_by ms vs (behind p begins t.kind) t.kind loop ts
 
 -- what becomes of the tokens of a text, where n loops over messages are made before
-abbrev pub changes : List Member → List Variable → ℕ → List Written → List Changed
+abbrev pub changes : List Member → List DeclaredName → ℕ → List Written → List MessageToken
 changes ms vs n ts = changes_by ms vs place.Outside kind.End (record { number = n; name = []; channel = []; index = [] }) ts

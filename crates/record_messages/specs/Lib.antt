@@ -1,9 +1,9 @@
 pub mod Member
 pub mod Members
-pub mod Variable
+pub mod DeclaredName
 pub mod Variables
 pub mod Places
-pub mod Changed
+pub mod MessageToken
 pub mod Changes
 pub mod Writing
 pub mod Laws

@@ -10,13 +10,13 @@ use Rattle.prepare.specs.Stretches.{stretches}
 use Rattle.names_apart.specs.declared.writing.TheConstants.{MOST_JOINT}
 use Rattle.names_apart.specs.Writing.{joint}
 use Rattle.record_messages.specs.declared.changes.TheConstants.{MOST_LOOPS}
-use Rattle.record_messages.specs.declared.changes.Change.{Change}
-use Rattle.record_messages.specs.declared.changes.Change.TheVariants as change
+use Rattle.record_messages.specs.declared.changes.MessageChange.{MessageChange}
+use Rattle.record_messages.specs.declared.changes.MessageChange.TheVariants as change
 use Rattle.record_messages.specs.Member.{Member}
 use Rattle.record_messages.specs.Members.{is_empty, members}
-use Rattle.record_messages.specs.Variable.{Variable}
+use Rattle.record_messages.specs.DeclaredName.{DeclaredName}
 use Rattle.record_messages.specs.Variables.{record_of, records}
-use Rattle.record_messages.specs.Changed.{Loop, Changed}
+use Rattle.record_messages.specs.MessageToken.{Loop, MessageToken}
 use Rattle.record_messages.specs.Changes.{changes}
 
 abbrev pub divider : Bool → List ℕ
@@ -45,17 +45,17 @@ abbrev pub channel : Loop → List ℕ
 channel l = l.channel ++ indexed l.index
 
 -- the sign of an operation stands between a channel and the fields of a message
-abbrev pub operation : List ℕ → List Member → List Variable → Loop → List ℕ
+abbrev pub operation : List ℕ → List Member → List DeclaredName → Loop → List ℕ
 operation sign ms vs l = channel l ++ (sign ++ fields true ms (record_of vs l.name) l.name)
 
 -- a message is received, and sent again
-abbrev pub turn : List Member → List Variable → Loop → List ℕ
+abbrev pub turn : List Member → List DeclaredName → Loop → List ℕ
 turn ms vs l = codes " " ++ (operation (codes "?") ms vs l ++ (codes "; " ++ (operation (codes "!") ms vs l ++ codes ";")))
 
 abbrev pub declared : List ℕ → ℕ → List ℕ → List ℕ
 declared joint n t = codes "byte " ++ (counter joint n ++ (codes "; " ++ t))
 
-abbrev pub shown_by : List Member → List Variable → List ℕ → Loop → Change → List ℕ → List ℕ
+abbrev pub shown_by : List Member → List DeclaredName → List ℕ → Loop → MessageChange → List ℕ → List ℕ
 shown_by ms vs joint l change.Kept t = t
 shown_by ms vs joint l change.Types t = types true ms t
 shown_by ms vs joint l change.Fields t = fields true ms (record_of vs t) t
@@ -65,13 +65,13 @@ shown_by ms vs joint l change.Range t = codes ": 0 .. len("
 shown_by ms vs joint l change.Ended t = codes ") - 1" ++ t
 shown_by ms vs joint l change.Turned t = t ++ turn ms vs l
 
-abbrev pub shown : List Member → List Variable → List ℕ → Changed → List ℕ
+abbrev pub shown : List Member → List DeclaredName → List ℕ → MessageToken → List ℕ
 shown ms vs joint c = shown_by ms vs joint c.loop c.change c.token
 
-abbrev pub one : List Member → List Variable → List ℕ → Changed → List ℕ
+abbrev pub one : List Member → List DeclaredName → List ℕ → MessageToken → List ℕ
 one ms vs joint c = c.gap ++ shown ms vs joint c
 
-abbrev pub written : List Member → List Variable → List ℕ → List Changed → List ℕ
+abbrev pub written : List Member → List DeclaredName → List ℕ → List MessageToken → List ℕ
 written ms vs joint cs = flat_map (one ms vs joint) cs
 
 -- all is written; where it is too long, so much of it that this is so

@@ -4,8 +4,8 @@ ghost use Rattle.std.specs.Prelude.{◌≡◌, IfOk};
 ghost use Rattle.record_messages.specs.Changes as changes;
 
 use crate::members::{Member, either, is_record};
-use crate::place::{Place, behind};
-use crate::variables::{Variable, begins_with, record_of};
+use crate::place::{MessagePlace, behind};
+use crate::variables::{DeclaredName, begins_with, record_of};
 use pml_token::token::{Kind, same_kind};
 use prepare::stretch::Stretch;
 use std::alloc::{AllocError, Global};
@@ -16,7 +16,7 @@ pub const MOST_LOOPS: u32 = 1000;
 
 /// What becomes of a token.
 #[derive(Clone, Copy)]
-pub enum Change {
+pub enum MessageChange {
     /// It stays.
     Kept,
     /// The types of the fields stand for it, which is the name of a typedef.
@@ -37,19 +37,19 @@ pub enum Change {
 
 /// A token, with what becomes of it.
 #[derive(Drop)]
-pub struct Changed<'t> {
+pub struct MessageToken<'t> {
     gap: &'t [u8],
     token: &'t [u8],
     kind: Kind,
-    change: Change,
+    change: MessageChange,
     number: u32,
     name: &'t [u8],
     channel: &'t [u8],
     index: &'t [u8],
 }
 
-impl<'t> Model for Changed<'t> {
-    ghost use Rattle.record_messages.specs.Changed.{Changed as Seen};
+impl<'t> Model for MessageToken<'t> {
+    ghost use Rattle.record_messages.specs.MessageToken.{MessageToken as Seen};
 
     ghost Value = { Seen };
 
@@ -62,7 +62,7 @@ impl<'t> Model for Changed<'t> {
     } };
 }
 
-impl<'t> Changed<'t> {
+impl<'t> MessageToken<'t> {
     /// The blanks and comments before the token.
     pub fn gap(&self) -> &'t [u8]
         ensures { result.now ≡ self.now.gap }
@@ -78,7 +78,7 @@ impl<'t> Changed<'t> {
     }
 
     /// What becomes of it.
-    pub fn change(&self) -> Change
+    pub fn change(&self) -> MessageChange
         ensures { result ≡ self.now.change }
     {
         self.change
@@ -159,7 +159,7 @@ fn ends_head(stretches: &[Stretch<'_>]) -> bool
 }
 
 /// Whether these are `(` and a record.
-fn begins_head(records: &[Variable<'_>], opening: &Stretch<'_>, variable: &Stretch<'_>) -> bool
+fn begins_head(records: &[DeclaredName<'_>], opening: &Stretch<'_>, variable: &Stretch<'_>) -> bool
     ensures { result ≡ changes.begins_head records.now opening.now variable.now }
 {
     same_kind(opening.kind(), Kind::OpenParen)
@@ -175,7 +175,7 @@ fn goes_over(word: &Stretch<'_>, channel: &Stretch<'_>) -> bool
 }
 
 /// Whether `(`, a record, `in`, a channel and a body stand at the front of stretches.
-fn opens_loop(records: &[Variable<'_>], stretches: &[Stretch<'_>]) -> bool
+fn opens_loop(records: &[DeclaredName<'_>], stretches: &[Stretch<'_>]) -> bool
     ensures { result ≡ changes.opens_loop records.now stretches.now }
 {
     match stretches {
@@ -188,7 +188,7 @@ fn opens_loop(records: &[Variable<'_>], stretches: &[Stretch<'_>]) -> bool
 
 /// Whether a token begins a loop over messages, where so many are made before it: behind a label none is.
 fn is_loop(
-    records: &[Variable<'_>],
+    records: &[DeclaredName<'_>],
     number: u32,
     last: Kind,
     kind: Kind,
@@ -209,68 +209,72 @@ fn is_alone(last: Kind, back: &[Stretch<'_>]) -> bool
 }
 
 fn change_of_sent(
-    records: &[Variable<'_>],
+    records: &[DeclaredName<'_>],
     last: Kind,
     stretch: &Stretch<'_>,
     back: &[Stretch<'_>],
-) -> Change
+) -> MessageChange
     ensures { result ≡ changes.change_of_sent records.now last stretch.now back.now }
 {
     if same_kind(stretch.kind(), Kind::Name)
         && (is_alone(last, back) && !record_of(records, stretch.token()).is_empty())
     {
-        Change::Fields
+        MessageChange::Fields
     } else {
-        Change::Kept
+        MessageChange::Kept
     }
 }
 
-fn change_of_type(members: &[Member<'_>], stretch: &Stretch<'_>) -> Change
+fn change_of_type(members: &[Member<'_>], stretch: &Stretch<'_>) -> MessageChange
     ensures { result ≡ changes.change_of_type members.now stretch.now }
 {
     if same_kind(stretch.kind(), Kind::Name) && is_record(members, stretch.token()) {
-        Change::Types
+        MessageChange::Types
     } else {
-        Change::Kept
+        MessageChange::Kept
     }
 }
 
-fn change_of_channel(kind: Kind) -> Change
+fn change_of_channel(kind: Kind) -> MessageChange
     ensures { result ≡ changes.change_of_channel kind }
 {
     if same_kind(kind, Kind::CloseParen) {
-        Change::Ended
+        MessageChange::Ended
     } else {
-        Change::Kept
+        MessageChange::Kept
     }
 }
 
 /// What becomes of a token that begins no loop over messages.
 fn change_at(
     members: &[Member<'_>],
-    records: &[Variable<'_>],
-    place: Place,
+    records: &[DeclaredName<'_>],
+    place: MessagePlace,
     last: Kind,
     stretch: &Stretch<'_>,
     back: &[Stretch<'_>],
-) -> Change
+) -> MessageChange
     ensures { result ≡ changes.change_at members.now records.now place last stretch.now back.now }
 {
     match place {
-        Place::Sent(_) => change_of_sent(records, last, stretch, back),
-        Place::Types => change_of_type(members, stretch),
-        Place::Counted => Change::Counter,
-        Place::Ranged => Change::Range,
-        Place::Over => change_of_channel(stretch.kind()),
-        Place::Entered => Change::Turned,
-        Place::Outside | Place::Listed | Place::Headed => Change::Kept,
+        MessagePlace::Sent(_) => change_of_sent(records, last, stretch, back),
+        MessagePlace::Types => change_of_type(members, stretch),
+        MessagePlace::Counted => MessageChange::Counter,
+        MessagePlace::Ranged => MessageChange::Range,
+        MessagePlace::Over => change_of_channel(stretch.kind()),
+        MessagePlace::Entered => MessageChange::Turned,
+        MessagePlace::Outside | MessagePlace::Listed | MessagePlace::Headed => MessageChange::Kept,
     }
 }
 
-fn change_or_loop(is_loop: bool, change: Change) -> Change
+fn change_or_loop(is_loop: bool, change: MessageChange) -> MessageChange
     ensures { result ≡ changes.change_or_loop is_loop change }
 {
-    if is_loop { Change::Declared } else { change }
+    if is_loop {
+        MessageChange::Declared
+    } else {
+        change
+    }
 }
 
 fn count(is_loop: bool, number: u32) -> u32
@@ -321,14 +325,14 @@ fn index_at<'t>(stretches: &[Stretch<'t>]) -> &'t [u8]
 pub fn changes<'t>(
     alloc: Global,
     members: &[Member<'_>],
-    records: &[Variable<'_>],
+    records: &[DeclaredName<'_>],
     first: u32,
     stretches: &[Stretch<'t>],
-) -> Result<Vec<Changed<'t>>, AllocError>
+) -> Result<Vec<MessageToken<'t>>, AllocError>
     ensures { IfOk result (λ v. v.items ≡ changes.changes members.now records.now first stretches.now) }
 {
     let mut out = Vec::new(alloc);
-    let mut place = Place::Outside;
+    let mut place = MessagePlace::Outside;
     let mut last = Kind::End;
     let mut number = first;
     let mut name: &'t [u8] = b"";
@@ -343,7 +347,7 @@ pub fn changes<'t>(
         name = either(begins, variable_at(back), name);
         channel = either(begins, channel_at(back), channel);
         index = either(begins, index_at(back), index);
-        out.push(Changed {
+        out.push(MessageToken {
             gap: stretch.gap(),
             token: stretch.token(),
             kind,

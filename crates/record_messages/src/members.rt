@@ -52,7 +52,7 @@ impl<'t> Member<'t> {
 
 /// What is known before a token.
 #[derive(Clone, Copy)]
-pub enum Fields {
+pub enum TypedefPlace {
     Outside,
     /// Behind `typedef`.
     Headed,
@@ -82,18 +82,18 @@ fn is_plain(kind: Kind) -> bool
     )
 }
 
-fn begun(kind: Kind) -> Fields
+fn begun(kind: Kind) -> TypedefPlace
     ensures { result ≡ as_members.begun kind }
 {
     if same_kind(kind, Kind::Typedef) {
-        Fields::Headed
+        TypedefPlace::Headed
     } else {
-        Fields::Outside
+        TypedefPlace::Outside
     }
 }
 
 // Behind a token of this kind, if it is the one that is awaited.
-fn if_kind(wanted: Kind, kind: Kind, next: Fields) -> Fields
+fn if_kind(wanted: Kind, kind: Kind, next: TypedefPlace) -> TypedefPlace
     ensures { result ≡ as_members.if_kind wanted kind next }
 {
     if same_kind(kind, wanted) {
@@ -103,68 +103,68 @@ fn if_kind(wanted: Kind, kind: Kind, next: Fields) -> Fields
     }
 }
 
-fn behind_lead(kind: Kind) -> Fields
+fn behind_lead(kind: Kind) -> TypedefPlace
     ensures { result ≡ as_members.behind_lead kind }
 {
     if is_plain(kind) {
-        Fields::Typed
+        TypedefPlace::Typed
     } else {
-        if_kind(Kind::Semicolon, kind, Fields::Ahead)
+        if_kind(Kind::Semicolon, kind, TypedefPlace::Ahead)
     }
 }
 
-fn behind_field(kind: Kind) -> Fields
+fn behind_field(kind: Kind) -> TypedefPlace
     ensures { result ≡ as_members.behind_field kind }
 {
     if same_kind(kind, Kind::Comma) {
-        Fields::Typed
+        TypedefPlace::Typed
     } else {
-        if_kind(Kind::Semicolon, kind, Fields::Ahead)
+        if_kind(Kind::Semicolon, kind, TypedefPlace::Ahead)
     }
 }
 
-fn behind(fields: Fields, kind: Kind) -> Fields
+fn behind(fields: TypedefPlace, kind: Kind) -> TypedefPlace
     ensures { result ≡ as_members.behind fields kind }
 {
     match fields {
-        Fields::Outside => begun(kind),
-        Fields::Headed => if_kind(Kind::Name, kind, Fields::Named),
-        Fields::Named => if_kind(Kind::OpenBrace, kind, Fields::Ahead),
-        Fields::Ahead => behind_lead(kind),
-        Fields::Typed => if_kind(Kind::Name, kind, Fields::Field),
-        Fields::Field => behind_field(kind),
+        TypedefPlace::Outside => begun(kind),
+        TypedefPlace::Headed => if_kind(Kind::Name, kind, TypedefPlace::Named),
+        TypedefPlace::Named => if_kind(Kind::OpenBrace, kind, TypedefPlace::Ahead),
+        TypedefPlace::Ahead => behind_lead(kind),
+        TypedefPlace::Typed => if_kind(Kind::Name, kind, TypedefPlace::Field),
+        TypedefPlace::Field => behind_field(kind),
     }
 }
 
 // Whether a typedef has something here that is no field of a plain type.
-fn is_odd(fields: Fields, kind: Kind) -> bool
+fn is_odd(fields: TypedefPlace, kind: Kind) -> bool
     ensures { result ≡ as_members.is_odd fields kind }
 {
     let is_end = same_kind(kind, Kind::Semicolon) || same_kind(kind, Kind::CloseBrace);
     match fields {
-        Fields::Ahead => !(is_plain(kind) || is_end),
-        Fields::Typed => !same_kind(kind, Kind::Name),
-        Fields::Field => !(same_kind(kind, Kind::Comma) || is_end),
+        TypedefPlace::Ahead => !(is_plain(kind) || is_end),
+        TypedefPlace::Typed => !same_kind(kind, Kind::Name),
+        TypedefPlace::Field => !(same_kind(kind, Kind::Comma) || is_end),
         _ => false,
     }
 }
 
-fn is_field(fields: Fields, kind: Kind) -> bool
+fn is_field(fields: TypedefPlace, kind: Kind) -> bool
     ensures { result ≡ as_members.is_field fields kind }
 {
-    matches!(fields, Fields::Typed) && same_kind(kind, Kind::Name)
+    matches!(fields, TypedefPlace::Typed) && same_kind(kind, Kind::Name)
 }
 
-fn names_home(fields: Fields, kind: Kind) -> bool
+fn names_home(fields: TypedefPlace, kind: Kind) -> bool
     ensures { result ≡ as_members.names_home fields kind }
 {
-    matches!(fields, Fields::Headed) && same_kind(kind, Kind::Name)
+    matches!(fields, TypedefPlace::Headed) && same_kind(kind, Kind::Name)
 }
 
-fn names_type(fields: Fields, kind: Kind) -> bool
+fn names_type(fields: TypedefPlace, kind: Kind) -> bool
     ensures { result ≡ as_members.names_type fields kind }
 {
-    matches!(fields, Fields::Ahead) && is_plain(kind)
+    matches!(fields, TypedefPlace::Ahead) && is_plain(kind)
 }
 
 /// Of two texts the first, where that is asked for.
@@ -177,7 +177,7 @@ pub(crate) fn either<'t>(is_first: bool, one: &'t [u8], other: &'t [u8]) -> &'t 
 // What a typedef has here.
 fn add_member<'t>(
     out: &mut Vec<Member<'t>>,
-    fields: Fields,
+    fields: TypedefPlace,
     kind: Kind,
     token: &'t [u8],
     home: &'t [u8],
@@ -201,7 +201,7 @@ fn all_members<'t>(alloc: Global, stretches: &[Stretch<'t>]) -> Result<Vec<Membe
     ensures { IfOk result (λ v. v.items ≡ as_members.all_members stretches.now) }
 {
     let mut out = Vec::new(alloc);
-    let mut fields = Fields::Outside;
+    let mut fields = TypedefPlace::Outside;
     let mut home: &'t [u8] = b"";
     let mut word: &'t [u8] = b"";
     let mut rest = stretches;

@@ -8,7 +8,7 @@ use prepare::context::deeper;
 
 /// What is known before a token.
 #[derive(Clone, Copy)]
-pub enum Place {
+pub enum MessagePlace {
     Outside,
     /// In a message; how many brackets are open since it began.
     Sent(u32),
@@ -28,38 +28,38 @@ pub enum Place {
     Entered,
 }
 
-fn begun(kind: Kind) -> Place
+fn begun(kind: Kind) -> MessagePlace
     ensures { result ≡ places.begun kind }
 {
     match kind {
-        Kind::Of => Place::Listed,
-        Kind::Bang | Kind::BangBang | Kind::Query | Kind::QueryQuery => Place::Sent(0),
-        _ => Place::Outside,
+        Kind::Of => MessagePlace::Listed,
+        Kind::Bang | Kind::BangBang | Kind::Query | Kind::QueryQuery => MessagePlace::Sent(0),
+        _ => MessagePlace::Outside,
     }
 }
 
-fn left(depth: u32) -> Place
+fn left(depth: u32) -> MessagePlace
     ensures { result ≡ places.left depth }
 {
     if depth == 0 {
-        Place::Outside
+        MessagePlace::Outside
     } else {
-        Place::Sent(depth - 1)
+        MessagePlace::Sent(depth - 1)
     }
 }
 
 // Behind a token of a message.
-fn sent_behind(depth: u32, kind: Kind) -> Place
+fn sent_behind(depth: u32, kind: Kind) -> MessagePlace
     ensures { result ≡ places.sent_behind depth kind }
 {
     match kind {
-        Kind::OpenParen | Kind::OpenBracket => Place::Sent(deeper(depth)),
+        Kind::OpenParen | Kind::OpenBracket => MessagePlace::Sent(deeper(depth)),
         Kind::CloseParen | Kind::CloseBracket => left(depth),
         Kind::Arrow => {
             if depth == 0 {
-                Place::Outside
+                MessagePlace::Outside
             } else {
-                Place::Sent(depth)
+                MessagePlace::Sent(depth)
             }
         }
         Kind::Semicolon
@@ -67,51 +67,51 @@ fn sent_behind(depth: u32, kind: Kind) -> Place
         | Kind::OpenBrace
         | Kind::CloseBrace
         | Kind::Fi
-        | Kind::Od => Place::Outside,
-        _ => Place::Sent(depth),
+        | Kind::Od => MessagePlace::Outside,
+        _ => MessagePlace::Sent(depth),
     }
 }
 
 /// What is known behind a token that begins no loop over messages.
-fn behind_other(place: Place, kind: Kind) -> Place
+fn behind_other(place: MessagePlace, kind: Kind) -> MessagePlace
     ensures { result ≡ places.behind_other place kind }
 {
     match place {
-        Place::Outside | Place::Entered => begun(kind),
-        Place::Sent(depth) => sent_behind(depth, kind),
-        Place::Listed => {
+        MessagePlace::Outside | MessagePlace::Entered => begun(kind),
+        MessagePlace::Sent(depth) => sent_behind(depth, kind),
+        MessagePlace::Listed => {
             if same_kind(kind, Kind::OpenBrace) {
-                Place::Types
+                MessagePlace::Types
             } else {
                 begun(kind)
             }
         }
-        Place::Types => {
+        MessagePlace::Types => {
             if same_kind(kind, Kind::CloseBrace) {
-                Place::Outside
+                MessagePlace::Outside
             } else {
-                Place::Types
+                MessagePlace::Types
             }
         }
-        Place::Headed => Place::Counted,
-        Place::Counted => Place::Ranged,
-        Place::Ranged => Place::Over,
-        Place::Over => {
+        MessagePlace::Headed => MessagePlace::Counted,
+        MessagePlace::Counted => MessagePlace::Ranged,
+        MessagePlace::Ranged => MessagePlace::Over,
+        MessagePlace::Over => {
             if same_kind(kind, Kind::CloseParen) {
-                Place::Entered
+                MessagePlace::Entered
             } else {
-                Place::Over
+                MessagePlace::Over
             }
         }
     }
 }
 
 /// What is known behind a token, which may begin a loop over messages.
-pub fn behind(place: Place, is_loop: bool, kind: Kind) -> Place
+pub fn behind(place: MessagePlace, is_loop: bool, kind: Kind) -> MessagePlace
     ensures { result ≡ places.behind place is_loop kind }
 {
     if is_loop {
-        Place::Headed
+        MessagePlace::Headed
     } else {
         behind_other(place, kind)
     }

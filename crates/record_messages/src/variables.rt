@@ -6,7 +6,7 @@ ghost use Rattle.record_messages.specs.Variables as as_variables;
 
 use crate::members::{Member, either, is_record};
 use pml_token::token::{Kind, same_kind};
-use prepare::sizes::{Lead, Reading};
+use prepare::sizes::{DeclarationReading, Lead};
 use prepare::stretch::Stretch;
 use std::alloc::{AllocError, Global};
 use std::marker::Model;
@@ -19,20 +19,20 @@ pub const MOST_LENGTH: usize = 64;
 
 /// A name that is declared.
 #[derive(Drop)]
-pub struct Variable<'t> {
+pub struct DeclaredName<'t> {
     name: &'t [u8],
     word: &'t [u8],
 }
 
-impl<'t> Model for Variable<'t> {
-    ghost use Rattle.record_messages.specs.Variable.{Variable as Seen};
+impl<'t> Model for DeclaredName<'t> {
+    ghost use Rattle.record_messages.specs.DeclaredName.{DeclaredName as Seen};
 
     ghost Value = { Seen };
 
     ghost view = { λ v. record { name = v.name.now; word = v.word.now } };
 }
 
-impl<'t> Variable<'t> {
+impl<'t> DeclaredName<'t> {
     /// The name.
     pub fn name(&self) -> &'t [u8]
         ensures { result.now ≡ self.now.name }
@@ -65,14 +65,14 @@ fn is_led_by_type(lead: Lead) -> bool
 }
 
 // Whether a name is declared behind its type.
-fn is_first(reading: Reading, kind: Kind) -> bool
+fn is_first(reading: DeclarationReading, kind: Kind) -> bool
     ensures { result ≡ as_variables.is_first reading kind }
 {
     reading.declares(kind) && is_led_by_type(reading.lead)
 }
 
 // The type of a name that is declared before these stretches.
-fn type_of<'t>(reading: Reading, word: &'t [u8], back: &[Stretch<'_>]) -> &'t [u8]
+fn type_of<'t>(reading: DeclarationReading, word: &'t [u8], back: &[Stretch<'_>]) -> &'t [u8]
     ensures { result.now ≡ as_variables.type_of reading word.now back.now }
 {
     if reading.is_header || begins_with(Kind::OpenBracket, back) {
@@ -85,11 +85,11 @@ fn type_of<'t>(reading: Reading, word: &'t [u8], back: &[Stretch<'_>]) -> &'t [u
 pub fn variables<'t>(
     alloc: Global,
     stretches: &[Stretch<'t>],
-) -> Result<Vec<Variable<'t>>, AllocError>
+) -> Result<Vec<DeclaredName<'t>>, AllocError>
     ensures { IfOk result (λ v. v.items ≡ as_variables.variables stretches.now) }
 {
     let mut out = Vec::new(alloc);
-    let mut reading = Reading::start();
+    let mut reading = DeclarationReading::start();
     let mut last: &'t [u8] = b"";
     let mut word: &'t [u8] = b"";
     let mut rest = stretches;
@@ -98,7 +98,7 @@ pub fn variables<'t>(
         let token = stretch.token();
         word = either(is_first(reading, kind), last, word);
         if reading.declares(kind) {
-            out.push(Variable {
+            out.push(DeclaredName {
                 name: token,
                 word: type_of(reading, word, back),
             })?;
@@ -111,7 +111,7 @@ pub fn variables<'t>(
 }
 
 // Whether all of these that have the name are of the type.
-fn agree(variables: &[Variable<'_>], name: &[u8], word: &[u8]) -> bool
+fn agree(variables: &[DeclaredName<'_>], name: &[u8], word: &[u8]) -> bool
     ensures { result ≡ as_variables.agree variables.now name.now word.now }
 {
     let mut rest = variables;
@@ -134,8 +134,8 @@ fn is_short(name: &[u8]) -> bool
 fn declared_records<'t>(
     alloc: Global,
     members: &[Member<'_>],
-    variables: &[Variable<'t>],
-) -> Result<Vec<Variable<'t>>, AllocError>
+    variables: &[DeclaredName<'t>],
+) -> Result<Vec<DeclaredName<'t>>, AllocError>
     ensures { IfOk result (λ v. v.items ≡ as_variables.declared_records MOST_RECORDS members.now variables.now) }
 {
     let mut out = Vec::new(alloc);
@@ -144,7 +144,7 @@ fn declared_records<'t>(
     while let [variable, back @ ..] = rest {
         if room > 0 && (is_short(variable.name()) && is_record(members, variable.word())) {
             room -= 1;
-            out.push(Variable {
+            out.push(DeclaredName {
                 name: variable.name(),
                 word: variable.word(),
             })?;
@@ -157,16 +157,16 @@ fn declared_records<'t>(
 // Those of them of which all declarations agree.
 fn settled<'t>(
     alloc: Global,
-    all: &[Variable<'_>],
-    found: &[Variable<'t>],
-) -> Result<Vec<Variable<'t>>, AllocError>
+    all: &[DeclaredName<'_>],
+    found: &[DeclaredName<'t>],
+) -> Result<Vec<DeclaredName<'t>>, AllocError>
     ensures { IfOk result (λ v. v.items ≡ as_variables.settled all.now found.now) }
 {
     let mut out = Vec::new(alloc);
     let mut rest = found;
     while let [variable, back @ ..] = rest {
         if agree(all, variable.name(), variable.word()) {
-            out.push(Variable {
+            out.push(DeclaredName {
                 name: variable.name(),
                 word: variable.word(),
             })?;
@@ -181,7 +181,7 @@ pub fn records<'t>(
     alloc: Global,
     members: &[Member<'_>],
     stretches: &[Stretch<'t>],
-) -> Result<Vec<Variable<'t>>, AllocError>
+) -> Result<Vec<DeclaredName<'t>>, AllocError>
     ensures { IfOk result (λ v. v.items ≡ as_variables.records members.now stretches.now) }
 {
     let all = variables(alloc, stretches)?;
@@ -190,7 +190,7 @@ pub fn records<'t>(
 }
 
 /// The typedef of a record; nothing where this is none.
-pub fn record_of<'t>(records: &[Variable<'t>], name: &[u8]) -> &'t [u8]
+pub fn record_of<'t>(records: &[DeclaredName<'t>], name: &[u8]) -> &'t [u8]
     ensures { result.now ≡ as_variables.record_of records.now name.now }
 {
     let mut rest = records;

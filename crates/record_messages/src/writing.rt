@@ -3,9 +3,9 @@
 ghost use Rattle.std.specs.Prelude.{◌≡◌, true, ◌++◌, IfOk, OnOk};
 ghost use Rattle.record_messages.specs.Writing as writing;
 
-use crate::changes::{Change, Changed, MOST_LOOPS, changes};
+use crate::changes::{MOST_LOOPS, MessageChange, MessageToken, changes};
 use crate::members::{Member, members};
-use crate::variables::{Variable, record_of, records};
+use crate::variables::{DeclaredName, record_of, records};
 use itoa::Buffer;
 use names_apart::writing::{MOST_JOINT, joint};
 use prepare::MOST_BYTES;
@@ -74,7 +74,7 @@ fn add_counter(out: &mut Vec<u8>, joint: &[u8], number: u32) -> Result<(), Alloc
 }
 
 // Adds the channel of a loop.
-fn add_channel(out: &mut Vec<u8>, changed: &Changed<'_>) -> Result<(), AllocError>
+fn add_channel(out: &mut Vec<u8>, changed: &MessageToken<'_>) -> Result<(), AllocError>
     ensures { OnOk result (out.new.items ≡ out.old.items ++ writing.channel changed.now.loop) }
 {
     out.extend_from_slice(changed.channel())?;
@@ -90,9 +90,9 @@ fn add_channel(out: &mut Vec<u8>, changed: &Changed<'_>) -> Result<(), AllocErro
 fn add_operation(
     out: &mut Vec<u8>,
     members: &[Member<'_>],
-    records: &[Variable<'_>],
+    records: &[DeclaredName<'_>],
     sign: &[u8],
-    changed: &Changed<'_>,
+    changed: &MessageToken<'_>,
 ) -> Result<(), AllocError>
     ensures { OnOk result (out.new.items ≡ out.old.items ++ writing.operation sign.now members.now records.now changed.now.loop) }
 {
@@ -106,8 +106,8 @@ fn add_operation(
 fn add_turn(
     out: &mut Vec<u8>,
     members: &[Member<'_>],
-    records: &[Variable<'_>],
-    changed: &Changed<'_>,
+    records: &[DeclaredName<'_>],
+    changed: &MessageToken<'_>,
 ) -> Result<(), AllocError>
     ensures { OnOk result (out.new.items ≡ out.old.items ++ writing.turn members.now records.now changed.now.loop) }
 {
@@ -135,25 +135,25 @@ fn add_declared(
 fn add_shown(
     out: &mut Vec<u8>,
     members: &[Member<'_>],
-    records: &[Variable<'_>],
+    records: &[DeclaredName<'_>],
     joint: &[u8],
-    changed: &Changed<'_>,
+    changed: &MessageToken<'_>,
 ) -> Result<(), AllocError>
     ensures { OnOk result (out.new.items ≡ out.old.items ++ writing.shown members.now records.now joint.now changed.now) }
 {
     let token = changed.token();
     match changed.change() {
-        Change::Kept => out.extend_from_slice(token),
-        Change::Types => add_types(out, members, token),
-        Change::Fields => add_fields(out, members, record_of(records, token), token),
-        Change::Declared => add_declared(out, joint, changed.number(), token),
-        Change::Counter => add_counter(out, joint, changed.number()),
-        Change::Range => out.extend_from_slice(b": 0 .. len("),
-        Change::Ended => {
+        MessageChange::Kept => out.extend_from_slice(token),
+        MessageChange::Types => add_types(out, members, token),
+        MessageChange::Fields => add_fields(out, members, record_of(records, token), token),
+        MessageChange::Declared => add_declared(out, joint, changed.number(), token),
+        MessageChange::Counter => add_counter(out, joint, changed.number()),
+        MessageChange::Range => out.extend_from_slice(b": 0 .. len("),
+        MessageChange::Ended => {
             out.extend_from_slice(b") - 1")?;
             out.extend_from_slice(token)
         }
-        Change::Turned => {
+        MessageChange::Turned => {
             out.extend_from_slice(token)?;
             add_turn(out, members, records, changed)
         }
@@ -163,9 +163,9 @@ fn add_shown(
 fn add_changed(
     out: &mut Vec<u8>,
     members: &[Member<'_>],
-    records: &[Variable<'_>],
+    records: &[DeclaredName<'_>],
     joint: &[u8],
-    changed: &Changed<'_>,
+    changed: &MessageToken<'_>,
 ) -> Result<(), AllocError>
     ensures { OnOk result (out.new.items ≡ out.old.items ++ writing.one members.now records.now joint.now changed.now) }
 {
@@ -177,9 +177,9 @@ fn add_changed(
 fn written(
     alloc: Global,
     members: &[Member<'_>],
-    records: &[Variable<'_>],
+    records: &[DeclaredName<'_>],
     joint: &[u8],
-    all: &[Changed<'_>],
+    all: &[MessageToken<'_>],
 ) -> Result<Vec<u8>, AllocError>
     ensures { IfOk result (λ v. writing.IsWritten (writing.written members.now records.now joint.now all.now) v.items) }
 {

@@ -5,7 +5,7 @@ use std::alloc::{AllocError, Global};
 
 /// A block of a file, whose text stays as long as the program runs.
 #[derive(Clone, Copy)]
-pub struct Block {
+pub struct RowBlock {
     /// The line of the file that it begins in, counted from 1.
     pub line: u32,
     /// What stands before its parts: its name, and nothing else where it is well-formed.
@@ -16,17 +16,17 @@ pub struct Block {
 
 /// A part of a block.
 #[derive(Clone, Copy)]
-pub struct Part {
+pub struct BlockPart {
     pub word: &'static str,
     pub behind: Option<&'static str>,
     pub below: Option<&'static str>,
 }
 
 /// The part with this text.
-pub fn part_of(text: &'static str) -> Part {
+pub fn part_of(text: &'static str) -> BlockPart {
     let (head, below) = cut(text, "\n");
     let (word, behind) = cut(head, " ");
-    Part {
+    BlockPart {
         word,
         behind,
         below,
@@ -35,20 +35,20 @@ pub fn part_of(text: &'static str) -> Part {
 
 /// What is found of a word.
 #[derive(Clone, Copy)]
-pub struct Found {
-    pub first: Option<Part>,
+pub struct FoundWord {
+    pub first: Option<BlockPart>,
     /// How many parts it begins.
     pub count: u32,
 }
 
-impl Block {
+impl RowBlock {
     /// Its name.
     pub fn name(self) -> &'static str {
         self.head
     }
 
     /// What is found of a word.
-    pub fn found(self, word: &str) -> Found {
+    pub fn found(self, word: &str) -> FoundWord {
         let mut first = None;
         let mut count = 0u32;
         for text in self.parts {
@@ -58,7 +58,7 @@ impl Block {
                 count = count.saturating_add(1);
             }
         }
-        Found { first, count }
+        FoundWord { first, count }
     }
 
     /// Whether it has a part with this word.
@@ -96,13 +96,13 @@ impl Block {
     fn shown(self, alloc: Global, word: &str, end: &'static str) -> Result<String, AllocError> {
         let (text, end) = match self.found(word).first {
             Some(
-                Part {
+                BlockPart {
                     below: Some(below),
                     ..
                 },
             ) => (below, "\n"),
             Some(
-                Part {
+                BlockPart {
                     behind: Some(behind),
                     ..
                 },

@@ -10,10 +10,10 @@ mod refused;
 mod told;
 mod writer;
 
-pub use block::Block;
+pub use block::RowBlock;
 pub use file::{lasting, names, text_of};
 pub use pair::{Pair, pairs};
 pub use reader::blocks;
 pub use refused::Refused;
-pub use told::Told;
-pub use writer::Writer;
+pub use told::RowReport;
+pub use writer::RowWriter;

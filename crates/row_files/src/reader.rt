@@ -1,5 +1,5 @@
 //! Reads the blocks of a file, and keeps what is wrong first.
-use crate::block::{Block, part_of};
+use crate::block::{RowBlock, part_of};
 use crate::cut::cut;
 use crate::refused::{Refused, refuse};
 use std::alloc::{AllocError, Global};
@@ -8,7 +8,7 @@ use std::alloc::{AllocError, Global};
 #[derive(Drop)]
 struct Reader {
     alloc: Global,
-    blocks: Vec<Block>,
+    blocks: Vec<RowBlock>,
     /// The line that is read, counted from 1.
     line: u32,
     /// What is wrong first, where something is.
@@ -27,7 +27,7 @@ fn lines_of(text: &str) -> u32 {
 }
 
 /// Whether a block has this name.
-fn is_named(blocks: &[Block], name: &str) -> bool {
+fn is_named(blocks: &[RowBlock], name: &str) -> bool {
     for block in blocks {
         if block.head == name {
             return true;
@@ -50,7 +50,7 @@ impl Reader {
     }
 
     /// Reads a part of a block, with one of these words.
-    fn read_part(&mut self, block: Block, text: &'static str, words: &[&str]) {
+    fn read_part(&mut self, block: RowBlock, text: &'static str, words: &[&str]) {
         let part = part_of(text);
         let is_known = words.contains(&part.word);
         let is_both = part.behind.is_some() && part.below.is_some();
@@ -66,7 +66,7 @@ impl Reader {
     }
 
     /// Reads a block.
-    fn read_block(&mut self, block: Block, words: &[&str]) {
+    fn read_block(&mut self, block: RowBlock, words: &[&str]) {
         let (name, rest) = cut(block.head, "\n");
         self.refuse(block.line, name.is_empty(), "a block without a name");
         self.refuse(block.line, rest.is_some(), "a text that stands in no part");
@@ -78,7 +78,7 @@ impl Reader {
     }
 
     /// Keeps a block, whose name no other one has.
-    fn keep(&mut self, block: Block) {
+    fn keep(&mut self, block: RowBlock) {
         let is_named = is_named(&self.blocks, block.head);
         self.refuse(block.line, is_named, "a name that another block has");
         if self.blocks.push(block).is_err() {
@@ -103,12 +103,12 @@ impl Reader {
         let line = self.line;
         if let [head, parts @ ..] = self.pieces(body, "\n-- ") {
             let head = *head;
-            self.read_block(Block { line, head, parts }, words);
+            self.read_block(RowBlock { line, head, parts }, words);
         }
     }
 
     /// The blocks, where nothing is wrong.
-    fn finish(self) -> Result<Vec<Block>, Refused> {
+    fn finish(self) -> Result<Vec<RowBlock>, Refused> {
         let Reader {
             blocks,
             refused,
@@ -133,7 +133,7 @@ fn bare(text: &'static str) -> Result<&'static str, Refused> {
 }
 
 /// Reads the blocks of a file. Each has another name, and each part of one another word, which is one of these.
-pub fn blocks(alloc: Global, text: &'static str, words: &[&str]) -> Result<Vec<Block>, Refused> {
+pub fn blocks(alloc: Global, text: &'static str, words: &[&str]) -> Result<Vec<RowBlock>, Refused> {
     let text = bare(text)?;
     let mut reader = Reader {
         alloc,

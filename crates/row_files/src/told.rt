@@ -1,11 +1,11 @@
 //! What is told of a row that differs: what was wanted, and what came.
-use crate::writer::Writer;
+use crate::writer::RowWriter;
 use std::alloc::Global;
 
 /// What is told of a row, in words; nothing, where nothing differs.
 #[derive(Drop)]
-pub struct Told {
-    words: Writer,
+pub struct RowReport {
+    words: RowWriter,
 }
 
 /// A text of bytes, to be read.
@@ -16,11 +16,11 @@ fn readable(bytes: &[u8]) -> &str {
     }
 }
 
-impl Told {
+impl RowReport {
     /// Nothing is told yet.
-    pub fn new(alloc: Global) -> Told {
-        Told {
-            words: Writer::new(alloc),
+    pub fn new(alloc: Global) -> RowReport {
+        RowReport {
+            words: RowWriter::new(alloc),
         }
     }
 

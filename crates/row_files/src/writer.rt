@@ -9,16 +9,16 @@ const DIGITS: [u8; 16] = *b"0123456789abcdef";
 
 /// A text that grows.
 #[derive(Drop)]
-pub struct Writer {
+pub struct RowWriter {
     text: String,
     /// Why it cannot be written, where that is so.
     refused: Option<&'static str>,
 }
 
-impl Writer {
+impl RowWriter {
     /// Nothing is written yet.
-    pub fn new(alloc: Global) -> Writer {
-        Writer {
+    pub fn new(alloc: Global) -> RowWriter {
+        RowWriter {
             text: String::new(alloc),
             refused: None,
         }
@@ -129,7 +129,7 @@ impl Writer {
 
     /// What is written, which stays as long as the program runs; why not, where it cannot be written.
     pub fn finish(self) -> Result<&'static str, Refused> {
-        let Writer { text, refused } = self;
+        let RowWriter { text, refused } = self;
         match refused {
             Some(why) => refuse(0, why),
             None => lasting(text.into_bytes()),

@@ -114,14 +114,14 @@ pub fn numbered_line(text: &[u8], number: usize) -> Option<&[u8]>
 
 /// What is shown of a line: its bytes, where the place begins on it, if it is found there, and how many bytes it has.
 #[derive(Clone, Copy)]
-pub struct Seen<'t> {
+pub struct LineSight<'t> {
     pub bytes: &'t [u8],
     pub onset: Option<usize>,
     pub length: usize,
 }
 
 /// What is shown of another line than that of the text: the token's place on it.
-fn seen_on<'t>(own: &'t [u8], line: &[u8], onset: usize, length: usize) -> Seen<'t>
+fn seen_on<'t>(own: &'t [u8], line: &[u8], onset: usize, length: usize) -> LineSight<'t>
     ensures { sight_of result ≡ seen_on own.now line.now onset length }
 {
     let onset = least(onset, line.len());
@@ -131,7 +131,7 @@ fn seen_on<'t>(own: &'t [u8], line: &[u8], onset: usize, length: usize) -> Seen<
         line.len()
     };
     let token = between(line, onset, end);
-    Seen {
+    LineSight {
         bytes: own,
         onset: place_on(own, line, onset, token),
         length: token.len(),
@@ -145,12 +145,12 @@ pub fn seen_in<'t>(
     line: &'t [u8],
     onset: usize,
     length: usize,
-) -> Seen<'t>
+) -> LineSight<'t>
     ensures { sight_of result ≡ seen_in source.now number line.now onset length }
 {
     match numbered_line(source, number) {
         Some(own) if own != line => seen_on(own, line, onset, length),
-        _ => Seen {
+        _ => LineSight {
             bytes: line,
             onset: Some(onset),
             length,

@@ -7,7 +7,7 @@ use std::str;
 
 /// A line of a text: its number from 1, how many bytes stand before it, and its bytes.
 #[derive(Clone, Copy)]
-pub struct Line<'t> {
+pub struct TextLine<'t> {
     pub number: usize,
     pub start: usize,
     pub bytes: &'t [u8],
@@ -126,13 +126,13 @@ pub fn between(text: &[u8], from: usize, to: usize) -> &[u8]
 }
 
 /// The line of a place.
-pub fn line_of(text: &[u8], offset: usize) -> Line<'_>
+pub fn line_of(text: &[u8], offset: usize) -> TextLine<'_>
     ensures number { result.number ≡ number_at text.now offset }
     ensures start { result.start ≡ start_at text.now offset }
     ensures bytes { result.bytes.now ≡ line_at text.now offset }
 {
     let start = line_start(text, offset);
-    Line {
+    TextLine {
         number: line_number(text, offset),
         start,
         bytes: first_line(between(text, start, text.len())),

@@ -6,7 +6,7 @@ use devices::SliceSource;
 use session::{Answer, Broken};
 use std::alloc::AllocError;
 use view_run::trailed::{Followed, follow_trail};
-use view_session::replay::{Along, Reading, Replay};
+use view_session::replay::{Along, Replay, ReplayReading};
 use view_session::steps::choose;
 use view_trail::marks::Marks;
 use view_walk::walk::{Walk, Went};
@@ -44,7 +44,7 @@ fn take_all(
 ) -> Result<Option<usize>, Broken>
     ensures { SameModel walk.old walk.new }
 {
-    let mut replay = Replay::Read(Reading::new(SliceSource::new(choices)));
+    let mut replay = Replay::Read(ReplayReading::new(SliceSource::new(choices)));
     for _turn in walk.at()..limit {
         let (goes_on, fault) = take_next(rt, walk, &mut replay, printed)?;
         if !goes_on {
@@ -77,7 +77,7 @@ fn follow(
 
 // What came of what was taken first.
 #[derive(Clone, Copy)]
-pub struct Begun {
+pub struct FirstTaken {
     // the move that comes to a fault
     pub faulting: Option<usize>,
     // whether a trail was followed to its end
@@ -91,12 +91,12 @@ pub fn take_first(
     launch: &Launch,
     marks: &Marks,
     printed: &mut Vec<u8>,
-) -> Result<Begun, AllocError>
+) -> Result<FirstTaken, AllocError>
     ensures { SameModel walk.old walk.new }
 {
     if let Some(trail) = &launch.trail {
         let (faulting, is_whole) = follow(rt, walk, marks, trail.as_slice(), launch.limit)?;
-        return Ok(Begun { faulting, is_whole });
+        return Ok(FirstTaken { faulting, is_whole });
     }
     let faulting = match &launch.choices {
         Some(choices) => match take_all(rt, walk, choices.as_slice(), launch.limit, printed) {
@@ -105,7 +105,7 @@ pub fn take_first(
         },
         None => None,
     };
-    Ok(Begun {
+    Ok(FirstTaken {
         faulting,
         is_whole: true,
     })

@@ -88,7 +88,7 @@ fn choices_at(rt: &HostRuntime, request: &Value) -> Result<Option<Vec<u8>>, NoFi
 // What a request asks to be launched.
 pub fn launch_of(rt: &HostRuntime, request: &Value) -> Result<Launch, NoFile> {
     let path = text_at(request, "/arguments/program");
-    let asked = models::Asked {
+    let asked = models::ModelOptions {
         file: path,
         name: path,
         prepare: is_true_at(request, "/arguments/prepare"),

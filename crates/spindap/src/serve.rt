@@ -1,15 +1,15 @@
 // A client, from its first request to its last.
 ghost use Rattle.view_walk.specs.Walks.{SameModel};
 
-use crate::first::{Begun, take_first};
+use crate::first::{FirstTaken, take_first};
 use crate::launch::{Launch, choosing_of, launch_of};
 use crate::link::{next, send};
-use crate::stop::Stop;
+use crate::stop::AdapterEnd;
 use dap_answers::answer::answer;
-use dap_answers::debugging::Session;
+use dap_answers::debugging::ClientSession;
 use dap_messages::fields::command_of;
 use dap_messages::outbox::Outbox;
-use dap_messages::processes::Source;
+use dap_messages::processes::ModelSource;
 use dap_messages::words::text_of;
 use diagnostics::Refusal;
 use message_frames::Frames;
@@ -17,7 +17,7 @@ use pml_check::Checked;
 use pml_play::{Rejection, checked_of, expanded_of};
 use pml_token::token::Token;
 use program_files::fault::NoFile;
-use program_files::refusal::{Shown, explained, explained_beside};
+use program_files::refusal::{ExplainedText, explained, explained_beside};
 use serde_json::{Value, json};
 use view_trail::marks::Marks;
 use view_walk::walk::Walk;
@@ -38,7 +38,7 @@ enum Ended {
     Refused,
 }
 
-fn greet(rt: &HostRuntime, out: &mut Outbox, request: &Value) -> Result<(), Stop> {
+fn greet(rt: &HostRuntime, out: &mut Outbox, request: &Value) -> Result<(), AdapterEnd> {
     let body = json!(in rt.alloc(); {
         "supportsConfigurationDoneRequest": true,
         "supportsStepBack": true,
@@ -56,7 +56,12 @@ fn greet(rt: &HostRuntime, out: &mut Outbox, request: &Value) -> Result<(), Stop
 }
 
 // Says that there is no model, and why.
-fn refuse(rt: &HostRuntime, out: &mut Outbox, request: &Value, why: &str) -> Result<Ended, Stop> {
+fn refuse(
+    rt: &HostRuntime,
+    out: &mut Outbox,
+    request: &Value,
+    why: &str,
+) -> Result<Ended, AdapterEnd> {
     out.refuse(request, why)?;
     let body = json!(in rt.alloc(); {})?;
     out.event("terminated", body)?;
@@ -70,7 +75,7 @@ fn words_of(rt: &HostRuntime, launch: &Launch, refusal: Refusal) -> Result<Strin
     if let Some(own) = &launch.model.own {
         return explained_beside(rt, launch.path.as_str(), text, own, refusal);
     }
-    let shown = Shown {
+    let shown = ExplainedText {
         name: launch.path.as_str(),
         text,
         source: &None,
@@ -85,7 +90,7 @@ fn rejected(
     launch: &Launch,
     request: &Value,
     rejection: Rejection,
-) -> Result<Ended, Stop> {
+) -> Result<Ended, AdapterEnd> {
     match rejection {
         Rejection::Memory => refuse(rt, out, request, "out of memory"),
         Rejection::Refused(refusal, _) => match words_of(rt, launch, refusal) {
@@ -109,10 +114,10 @@ fn file_words(fault: &NoFile) -> &'static str {
 // Answers a request. Where memory is refused for that, it is told, and the walk stands where it stood or on the way there.
 fn answer_one(
     walk: &mut Walk<'_, '_>,
-    session: &mut Session,
-    source: Source<'_>,
+    session: &mut ClientSession,
+    source: ModelSource<'_>,
     request: &Value,
-) -> Result<(), Stop>
+) -> Result<(), AdapterEnd>
     ensures { SameModel walk.old walk.new }
 {
     if answer(walk, session, source, request).is_err() {
@@ -127,9 +132,9 @@ fn answer_all(
     rt: &HostRuntime,
     frames: &mut Frames,
     walk: &mut Walk<'_, '_>,
-    session: &mut Session,
-    source: Source<'_>,
-) -> Result<Ended, Stop>
+    session: &mut ClientSession,
+    source: ModelSource<'_>,
+) -> Result<Ended, AdapterEnd>
     ensures { SameModel walk.old walk.new }
 {
     for _turn in 0..u64::MAX {
@@ -149,11 +154,11 @@ fn answer_all(
 // Begins a session: only now the client is asked for its breaks.
 fn begin(
     rt: &HostRuntime,
-    session: &mut Session,
+    session: &mut ClientSession,
     request: &Value,
-    begun: &Begun,
+    begun: &FirstTaken,
     printed: &[u8],
-) -> Result<(), Stop> {
+) -> Result<(), AdapterEnd> {
     session.faulting = begun.faulting;
     let body = json!(in rt.alloc(); {})?;
     session.out.reply(request, body)?;
@@ -177,14 +182,14 @@ fn of_walk(
     request: &Value,
     marks: &Marks,
     walk: Walk<'_, '_>,
-) -> Result<Ended, Stop> {
+) -> Result<Ended, AdapterEnd> {
     let mut walk = walk;
     let mut printed = Vec::new(rt.alloc());
     let begun = take_first(rt, &mut walk, launch, marks, &mut printed)?;
     let out = std::mem::replace(&mut client.out, Outbox::new(rt.alloc()));
-    let mut session = Session::new(out, choosing_of(request), launch.limit);
+    let mut session = ClientSession::new(out, choosing_of(request), launch.limit);
     begin(rt, &mut session, request, &begun, printed.as_slice())?;
-    let source = Source {
+    let source = ModelSource {
         path: launch.path.as_str(),
         text: launch.shown(),
     };
@@ -198,10 +203,10 @@ fn of_model(
     request: &Value,
     marks: &Marks,
     checked: &Checked<'_>,
-) -> Result<Ended, Stop> {
+) -> Result<Ended, AdapterEnd> {
     match Walk::new(rt.alloc(), checked, launch.is_lossy) {
         Ok(walk) => of_walk(rt, client, launch, request, marks, walk),
-        Err(_) => Err(Stop::Memory),
+        Err(_) => Err(AdapterEnd::Memory),
     }
 }
 
@@ -211,7 +216,7 @@ fn of_tokens<'a>(
     launch: &Launch,
     request: &Value,
     tokens: &'a [Token<'a>],
-) -> Result<Ended, Stop> {
+) -> Result<Ended, AdapterEnd> {
     let mut marks = Marks::new(rt.alloc());
     if launch.trail.is_some() {
         marks.mark_all(tokens)?;
@@ -227,14 +232,14 @@ fn of_launch(
     client: &mut Client,
     launch: &Launch,
     request: &Value,
-) -> Result<Ended, Stop> {
+) -> Result<Ended, AdapterEnd> {
     match expanded_of(rt.alloc(), launch.model.bytes.as_slice()) {
         Ok(tokens) => of_tokens(rt, client, launch, request, tokens.as_slice()),
         Err(rejection) => rejected(rt, &mut client.out, launch, request, rejection),
     }
 }
 
-fn launched(rt: &HostRuntime, client: &mut Client, request: &Value) -> Result<Ended, Stop> {
+fn launched(rt: &HostRuntime, client: &mut Client, request: &Value) -> Result<Ended, AdapterEnd> {
     match launch_of(rt, request) {
         Ok(launch) => of_launch(rt, client, &launch, request),
         Err(fault) => refuse(rt, &mut client.out, request, file_words(&fault)),
@@ -242,7 +247,11 @@ fn launched(rt: &HostRuntime, client: &mut Client, request: &Value) -> Result<En
 }
 
 // Answers a request before there is a model. Whether the client has ended it.
-fn answer_first(rt: &HostRuntime, client: &mut Client, request: &Value) -> Result<bool, Stop> {
+fn answer_first(
+    rt: &HostRuntime,
+    client: &mut Client,
+    request: &Value,
+) -> Result<bool, AdapterEnd> {
     let command = command_of(request);
     if command == "launch" {
         return Ok(launched(rt, client, request)? == Ended::Disconnected);
@@ -260,7 +269,7 @@ fn answer_first(rt: &HostRuntime, client: &mut Client, request: &Value) -> Resul
 }
 
 // Answers requests until the client ends it.
-pub fn serve(rt: &HostRuntime) -> Result<(), Stop> {
+pub fn serve(rt: &HostRuntime) -> Result<(), AdapterEnd> {
     let mut client = Client {
         frames: Frames::new(rt.alloc()),
         out: Outbox::new(rt.alloc()),

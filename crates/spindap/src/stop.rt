@@ -7,21 +7,21 @@ use std::alloc::AllocError;
 
 // Why the adapter ends.
 #[derive(Clone, Copy)]
-pub enum Stop {
+pub enum AdapterEnd {
     Ended,
     Head,
     Device,
     Memory,
 }
 
-impl Stop {
+impl AdapterEnd {
     // What is said of it.
     pub fn words(self) -> &'static str {
         match self {
-            Stop::Ended => "the input ended before disconnect",
-            Stop::Head => "a message has no head with its length",
-            Stop::Device => "device failed",
-            Stop::Memory => "out of memory",
+            AdapterEnd::Ended => "the input ended before disconnect",
+            AdapterEnd::Head => "a message has no head with its length",
+            AdapterEnd::Device => "device failed",
+            AdapterEnd::Memory => "out of memory",
         }
     }
 
@@ -30,26 +30,26 @@ impl Stop {
         ensures { result ≡ status self }
     {
         match self {
-            Stop::Ended => 1,
-            Stop::Head => 2,
-            Stop::Device | Stop::Memory => 6,
+            AdapterEnd::Ended => 1,
+            AdapterEnd::Head => 2,
+            AdapterEnd::Device | AdapterEnd::Memory => 6,
         }
     }
 }
 
-impl From<AllocError> for Stop {
-    fn from(_error: AllocError) -> Stop {
-        Stop::Memory
+impl From<AllocError> for AdapterEnd {
+    fn from(_error: AllocError) -> AdapterEnd {
+        AdapterEnd::Memory
     }
 }
 
-impl From<NoMessage> for Stop {
-    fn from(fault: NoMessage) -> Stop {
+impl From<NoMessage> for AdapterEnd {
+    fn from(fault: NoMessage) -> AdapterEnd {
         match fault {
-            NoMessage::Ended => Stop::Ended,
-            NoMessage::Head => Stop::Head,
-            NoMessage::Device => Stop::Device,
-            NoMessage::Memory => Stop::Memory,
+            NoMessage::Ended => AdapterEnd::Ended,
+            NoMessage::Head => AdapterEnd::Head,
+            NoMessage::Device => AdapterEnd::Device,
+            NoMessage::Memory => AdapterEnd::Memory,
         }
     }
 }

@@ -11,7 +11,7 @@ pub use devices::{
     ThreeDevices,
 };
 pub use diagnostics::{Fault, Refusal, Stop};
-pub use explain::{Source as Prepared, explain, explain_beside, included_file, shown_file};
+pub use explain::{AuthorSource as Prepared, explain, explain_beside, included_file, shown_file};
 pub use pml_check::{CheckFault, Checked, check};
 pub use pml_inline::expand;
 pub use pml_lex::cut;
@@ -29,6 +29,6 @@ pub use promela_text::inline_fault::InlineError;
 pub use promela_text::misuse::{Limit, Misuse, Rule};
 pub use run_values::changed::Change;
 pub use session::{Cause, Conversion, End, Machine, Options, Report};
-pub use streams::followed::Followed;
+pub use streams::followed::FollowedReader;
 pub use streams::heard::Heard;
-pub use streams::over::{Played, Streams, convert_over, play_over, session_over};
+pub use streams::over::{PlayedSession, Streams, convert_over, play_over, session_over};

@@ -13,8 +13,8 @@ use Rattle.program_files.specs.Held.{IsStatusOfFile}
 use Rattle.program_files.specs.Words.{IsStatusOfWords}
 use Rattle.promela_session.specs.declared.ends.End.{End}
 use Rattle.streams.specs.Streams.{EndsOver, Known}
-use Rattle.spinplay_program.specs.declared.checked.Ran.{Ran}
-use Rattle.spinplay_program.specs.declared.checked.Ran.TheVariants as ran
+use Rattle.spinplay_program.specs.declared.checked.ModelOutcome.{ModelOutcome}
+use Rattle.spinplay_program.specs.declared.checked.ModelOutcome.TheVariants as ran
 use Rattle.spinplay_program.specs.declared.stop.NoRun.{NoRun}
 use Rattle.spinplay_program.specs.declared.stop.NoRun.TheVariants as no
 use Rattle.spinplay_program.specs.declared.stop.Unplayed.{Unplayed}
@@ -36,17 +36,17 @@ IsChecked text None = (p : Program) × IsReady text p
 IsChecked text (Some why) = IsRejected text why
 
 -- a text was checked where that is asked for, and else a session over it ended
-abbrev pub HasRun : Arguments → List ℕ → Ran → Type 0
+abbrev pub HasRun : Arguments → List ℕ → ModelOutcome → Type 0
 HasRun asked text (ran.Ended end) = (asked.check ≡ false) × HasPlayed asked text end
 HasRun asked text (ran.Checked why) = (asked.check ≡ true) × IsChecked text why
 
 -- so it is of some text
-pub record HasRunSome (asked : Arguments) (r : Ran) : Type 0 where
+pub record HasRunSome (asked : Arguments) (r : ModelOutcome) : Type 0 where
   pub text : List ℕ
   pub has : HasRun asked text r
 
 -- this came of a model as these words ask for it
-pub record IsRun (words : List Text) (r : Ran) : Type 0 where
+pub record IsRun (words : List Text) (r : ModelOutcome) : Type 0 where
   pub asked : Arguments
   pub read : IsAskedFor words asked
   pub has : HasRunSome asked r
@@ -86,7 +86,7 @@ abbrev pub IsCause : List Text → NoRun → Type 0
 IsCause words stop = IsNoCommand words stop ⊎ FailsByFile words stop
 
 -- what came of these words, or why nothing did
-abbrev pub IsOutcome : List Text → Result Ran Unplayed → Type 0
+abbrev pub IsOutcome : List Text → Result ModelOutcome Unplayed → Type 0
 IsOutcome words (Ok r) = IsRun words r
 IsOutcome words (Err unplayed) = IsCause words unplayed.stop
 
@@ -102,19 +102,19 @@ IsStatusOfStop (no.File fault) status = IsStatusOfFile fault status
 IsStatusOfStop no.Memory status = status ≡ 6
 
 -- that of a session is its end's; of a text that was checked 0 where it stands for a model, 3 where it is refused, and 6 where memory was
-abbrev pub IsStatusOfRun : Ran → ℕ → Type 0
+abbrev pub IsStatusOfRun : ModelOutcome → ℕ → Type 0
 IsStatusOfRun (ran.Ended end) status = status ≡ end.status
 IsStatusOfRun (ran.Checked None) status = status ≡ 0
 IsStatusOfRun (ran.Checked (Some rejection.Memory)) status = status ≡ 6
 IsStatusOfRun (ran.Checked (Some (rejection.Refused refusal line))) status = status ≡ 3
 
 -- the status is that of what came of the words, or of why nothing did
-abbrev pub IsStatusOf : Result Ran Unplayed → ℕ → Type 0
+abbrev pub IsStatusOf : Result ModelOutcome Unplayed → ℕ → Type 0
 IsStatusOf (Ok r) status = IsStatusOfRun r status
 IsStatusOf (Err unplayed) status = IsStatusOfStop unplayed.stop status
 
 -- The status of the program, on these words: that of what came of them, or of why nothing did.
 pub record IsStatus (words : List Text) (status : ℕ) : Type 0 where
-  pub outcome : Result Ran Unplayed
+  pub outcome : Result ModelOutcome Unplayed
   pub is_outcome : IsOutcome words outcome
   pub is_status : IsStatusOf outcome status

@@ -8,7 +8,7 @@ use std::alloc::Global;
 
 // What came of a model.
 #[derive(Clone, Copy)]
-pub enum Ran {
+pub enum ModelOutcome {
     // It was played.
     Ended(End),
     // It was checked, and is rejected or not.

@@ -1,14 +1,14 @@
 // The files of a command line: the choices and the record.
 use program_files::fault::{NoFile, not_opened};
-use program_files::held::{Held, Role};
+use program_files::held::{FileRole, Held};
 use program_files::identity::{Identity, identity_at};
-use program_files::input::{Choices, Input, choices_in};
+use program_files::input::{ChoiceInput, Input, choices_in};
 use spinplay::Arguments;
 use std::fs;
 use std::fs::File;
 
 // The choices that are asked for: of a file, or else of standard input. Which file that is, is of no matter without a record.
-pub fn choices_of(rt: &HostRuntime, asked: &Arguments) -> Result<Choices, NoFile> {
+pub fn choices_of(rt: &HostRuntime, asked: &Arguments) -> Result<ChoiceInput, NoFile> {
     if let Some(name) = &asked.choices {
         return choices_in(rt, name.as_str());
     }
@@ -16,7 +16,7 @@ pub fn choices_of(rt: &HostRuntime, asked: &Arguments) -> Result<Choices, NoFile
         Some(_) => identity_at(rt, "/dev/stdin")?,
         None => None,
     };
-    Ok(Choices {
+    Ok(ChoiceInput {
         input: Input::Standard(rt.stdin()),
         file,
     })
@@ -30,12 +30,12 @@ pub fn held_of(
     choices: Option<Identity>,
 ) -> Result<Held, NoFile> {
     let mut held = Held::new(rt.alloc());
-    held.add(model, Role::Model)?;
+    held.add(model, FileRole::Model)?;
     if let Some(name) = &asked.source {
-        held.add(identity_at(rt, name.as_str())?, Role::Model)?;
+        held.add(identity_at(rt, name.as_str())?, FileRole::Model)?;
     }
-    held.add(choices, Role::Choices)?;
-    held.add(identity_at(rt, "/dev/stdout")?, Role::Output)?;
+    held.add(choices, FileRole::Choices)?;
+    held.add(identity_at(rt, "/dev/stdout")?, FileRole::Output)?;
     Ok(held)
 }
 

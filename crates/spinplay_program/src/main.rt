@@ -12,14 +12,15 @@ mod files;
 mod stop;
 mod telling;
 
-use checked::{Ran, check_model};
+use checked::{ModelOutcome, check_model};
 use files::{choices_of, created, held_of};
 use program_files::fault::NoFile;
 use program_files::input::Input;
 use program_files::models;
 use program_files::models::{Model, model_in};
 use spinplay::{
-    Arguments, End, Followed, Heard, Played, Rejection, Streams, arguments, session_over,
+    Arguments, End, FollowedReader, Heard, PlayedSession, Rejection, Streams, arguments,
+    session_over,
 };
 use std::alloc::{AllocError, Global};
 use std::fs::{File, OpenFile};
@@ -87,7 +88,7 @@ fn asked_of(alloc: Global, words: &[String]) -> Result<Arguments, NoRun>
 }
 
 // Where a run reads its choices, and where its output and its record go.
-type Opened = Streams<Heard<Followed<Input>>, Heard<Stdout>, Heard<File>>;
+type Opened = Streams<Heard<FollowedReader<Input>>, Heard<Stdout>, Heard<File>>;
 
 // Opens the choices and then the record.
 fn open_all(rt: &HostRuntime, asked: &Arguments, model: &Model) -> Result<Opened, NoFile> {
@@ -100,14 +101,14 @@ fn open_all(rt: &HostRuntime, asked: &Arguments, model: &Model) -> Result<Opened
         None => None,
     };
     Ok(Streams {
-        source: Heard::new(Followed::new(rt.alloc(), choices.input)),
+        source: Heard::new(FollowedReader::new(rt.alloc(), choices.input)),
         out: Heard::new(rt.stdout()),
         rec,
     })
 }
 
 // A run that was played over what was opened.
-type PlayedOver = Played<Heard<Followed<Input>>, Heard<Stdout>, Heard<File>>;
+type PlayedOver = PlayedSession<Heard<FollowedReader<Input>>, Heard<Stdout>, Heard<File>>;
 
 // Explains what came of a run that was no run, or that a device ended.
 fn explained(rt: &HostRuntime, asked: &Arguments, model: &Model, ran: &PlayedOver) {
@@ -130,7 +131,7 @@ fn played_over<R: Read, O: Write, K: Write>(
     text: &[u8],
     asked: &Arguments,
     streams: Streams<R, O, K>,
-) -> Played<R, O, K>
+) -> PlayedSession<R, O, K>
     ensures { let k = known R.remaining O.contents K.contents in
         EndsOver asked.now.convert text.now asked.now.options (k streams) (k result.streams) result.end }
 {
@@ -143,7 +144,7 @@ fn run_text<R: Read, O: Write, K: Write>(
     asked: &Arguments,
     text: &[u8],
     streams: Streams<R, O, K>,
-) -> Played<R, O, K>
+) -> PlayedSession<R, O, K>
     ensures { let k = known R.remaining O.contents K.contents in
         EndsOver asked.now.convert text.now asked.now.options (k streams) (k result.streams) result.end }
 {
@@ -178,25 +179,25 @@ fn held_descriptors(rt: &HostRuntime) -> [io::Result<File>; 3] {
 }
 
 // Checks or plays a model, as it is asked for.
-fn run_model(rt: &HostRuntime, asked: &Arguments, model: &Model) -> Result<Ran, NoRun>
+fn run_model(rt: &HostRuntime, asked: &Arguments, model: &Model) -> Result<ModelOutcome, NoRun>
     ensures ok { IfOk result (HasRun asked.now model.now.bytes.items) }
     ensures err { IfErr result IsOfFiles }
 {
     if asked.check {
-        return Ok(Ran::Checked(check_model(rt, asked, model)));
+        return Ok(ModelOutcome::Checked(check_model(rt, asked, model)));
     }
     match run(rt, asked, model) {
-        Ok(end) => Ok(Ran::Ended(end)),
+        Ok(end) => Ok(ModelOutcome::Ended(end)),
         Err(stop) => Err(stop),
     }
 }
 
 // The same of the model that is asked for.
-fn run_asked(rt: &HostRuntime, asked: &Arguments) -> Result<Ran, NoRun>
+fn run_asked(rt: &HostRuntime, asked: &Arguments) -> Result<ModelOutcome, NoRun>
     ensures ok { IfOk result (HasRunSome asked.now) }
     ensures err { IfErr result IsOfFiles }
 {
-    let wanted = models::Asked {
+    let wanted = models::ModelOptions {
         file: asked.model.as_str(),
         name: name_of(asked),
         prepare: asked.prepare,
@@ -211,7 +212,7 @@ fn run_asked(rt: &HostRuntime, asked: &Arguments) -> Result<Ran, NoRun>
 }
 
 // Does what these words ask for. What came of it, or why nothing did.
-fn outcome_of(rt: &HostRuntime, words: &[String]) -> Result<Ran, Unplayed>
+fn outcome_of(rt: &HostRuntime, words: &[String]) -> Result<ModelOutcome, Unplayed>
     ensures { IsOutcome (map string_bytes words.now) result }
 {
     let asked = match asked_of(rt.alloc(), words) {
@@ -225,19 +226,19 @@ fn outcome_of(rt: &HostRuntime, words: &[String]) -> Result<Ran, Unplayed>
 }
 
 // The status of what came of a model.
-fn status_of_run(ran: Ran) -> u8
+fn status_of_run(ran: ModelOutcome) -> u8
     ensures { IsStatusOfRun ran result }
 {
     match ran {
-        Ran::Ended(end) => end.status,
-        Ran::Checked(None) => 0,
-        Ran::Checked(Some(Rejection::Refused(_, _))) => 3,
-        Ran::Checked(Some(Rejection::Memory)) => 6,
+        ModelOutcome::Ended(end) => end.status,
+        ModelOutcome::Checked(None) => 0,
+        ModelOutcome::Checked(Some(Rejection::Refused(_, _))) => 3,
+        ModelOutcome::Checked(Some(Rejection::Memory)) => 6,
     }
 }
 
 // The status of an outcome. Where nothing came of the words it is told why.
-fn status_of(rt: &HostRuntime, outcome: &Result<Ran, Unplayed>) -> u8
+fn status_of(rt: &HostRuntime, outcome: &Result<ModelOutcome, Unplayed>) -> u8
     ensures { IsStatusOf outcome.now result }
 {
     match outcome {

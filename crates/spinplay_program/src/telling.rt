@@ -5,10 +5,10 @@ use crate::stop::NoRun;
 use program_files::fault::NoFile;
 use program_files::input::Input;
 use program_files::models::Model;
-use program_files::refusal::{Shown, explained, explained_beside};
+use program_files::refusal::{ExplainedText, explained, explained_beside};
 use program_files::telling::{explain_device, tell_cut, tell_file, tell_misfit};
-use program_files::words::{Program, tell_words};
-use spinplay::{Arguments, Cause, End, Followed, Refusal, shown_file};
+use program_files::words::{FrontEnd, tell_words};
+use spinplay::{Arguments, Cause, End, FollowedReader, Refusal, shown_file};
 use std::alloc::{AllocError, Global};
 use std::io;
 
@@ -69,7 +69,7 @@ fn words_of_refusal(
     if let Some(own) = &model.own {
         return explained_beside(rt, name_of(asked), text, own, refusal);
     }
-    let shown = Shown {
+    let shown = ExplainedText {
         name: name_of(asked),
         text,
         source: &asked.source,
@@ -168,7 +168,7 @@ pub fn explain_end(rt: &HostRuntime, asked: &Arguments, model: &Model, end: &End
 pub fn explain_choices(
     rt: &HostRuntime,
     name: &Option<String>,
-    choices: &Followed<Input>,
+    choices: &FollowedReader<Input>,
     end: &End,
 ) {
     if let Cause::Misfit = end.cause {
@@ -190,7 +190,7 @@ pub fn tell_stop(rt: &HostRuntime, stop: &NoRun, explains: bool) -> u8
     ensures { IsStatusOfStop stop.now result }
 {
     match stop {
-        NoRun::Words(error) => tell_words(rt, Program::Play, error),
+        NoRun::Words(error) => tell_words(rt, FrontEnd::Play, error),
         NoRun::NotText => {
             let _ = eprintln!(rt; "error: invalid UTF-8 was detected in one or more arguments");
             4

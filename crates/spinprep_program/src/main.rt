@@ -12,44 +12,44 @@ use std::fs::File;
 use std::io::Write;
 use std::process::ExitCode;
 use std::{env, fs, io};
-use stop::{PROGRAM, Stop, status_of, tell_stop};
-use words::{Asked, asked_by};
+use stop::{Hindrance, PROGRAM, status_of, tell_stop};
+use words::{PreparingCommand, asked_by};
 
-fn asked_of(rt: &HostRuntime) -> Result<Asked, Stop> {
+fn asked_of(rt: &HostRuntime) -> Result<PreparingCommand, Hindrance> {
     match env::args(rt) {
         Ok(words) => {
             let words: Vec<String> = words.skip(1).collect(rt.alloc())?;
             asked_by(rt.alloc(), words.as_slice())
         }
-        Err(error) if error.kind() == io::ErrorKind::OutOfMemory => Err(Stop::Memory),
-        Err(_) => Err(Stop::Words),
+        Err(error) if error.kind() == io::ErrorKind::OutOfMemory => Err(Hindrance::Memory),
+        Err(_) => Err(Hindrance::Words),
     }
 }
 
-fn opened(rt: &HostRuntime, name: &str) -> Result<File, Stop> {
+fn opened(rt: &HostRuntime, name: &str) -> Result<File, Hindrance> {
     match fs::open(rt, name) {
         Ok(file) => Ok(file),
-        Err(error) if error.kind() == io::ErrorKind::OutOfMemory => Err(Stop::Memory),
-        Err(_) => Err(Stop::CannotOpen(String::from_str(rt.alloc(), name)?)),
+        Err(error) if error.kind() == io::ErrorKind::OutOfMemory => Err(Hindrance::Memory),
+        Err(_) => Err(Hindrance::CannotOpen(String::from_str(rt.alloc(), name)?)),
     }
 }
 
 // Writes where the lines of included files stand in what is prepared of the text.
-fn write_lines(rt: &HostRuntime, table: &[u8], name: &str) -> Result<(), Stop> {
+fn write_lines(rt: &HostRuntime, table: &[u8], name: &str) -> Result<(), Hindrance> {
     match fs::create(rt, name) {
         Ok(mut file) => {
             if file.write_all(table).is_err() {
-                return Err(Stop::Device);
+                return Err(Hindrance::Device);
             }
             Ok(())
         }
-        Err(error) if error.kind() == io::ErrorKind::OutOfMemory => Err(Stop::Memory),
-        Err(_) => Err(Stop::CannotOpen(String::from_str(rt.alloc(), name)?)),
+        Err(error) if error.kind() == io::ErrorKind::OutOfMemory => Err(Hindrance::Memory),
+        Err(_) => Err(Hindrance::CannotOpen(String::from_str(rt.alloc(), name)?)),
     }
 }
 
 // What the file is called in what is said.
-fn own_name(asked: &Asked) -> &str {
+fn own_name(asked: &PreparingCommand) -> &str {
     match &asked.name {
         Some(name) => name.as_str(),
         None => asked.file.as_str(),
@@ -57,15 +57,15 @@ fn own_name(asked: &Asked) -> &str {
 }
 
 // Writes what the preprocessor leaves of the text, and prepares nothing.
-fn expand(rt: &HostRuntime, text: &[u8]) -> Result<u8, Stop> {
+fn expand(rt: &HostRuntime, text: &[u8]) -> Result<u8, Hindrance> {
     let mut out = rt.stdout();
     if out.write_all(text).is_err() || out.flush().is_err() {
-        return Err(Stop::Device);
+        return Err(Hindrance::Device);
     }
     Ok(0)
 }
 
-fn run(rt: &HostRuntime) -> Result<u8, Stop> {
+fn run(rt: &HostRuntime) -> Result<u8, Hindrance> {
     let asked = asked_of(rt)?;
     let file = asked.file.as_str();
     let called = Called {

@@ -5,7 +5,7 @@ ghost use Rattle.std.specs.Io.KnownBytes.{Appends};
 ghost use Rattle.prepare.specs.declared.TheConstants.{MOST_BYTES};
 ghost use Rattle.spinprep_program.specs.Over.{count, Takes, TakesFront, PreparesOver, BreaksOver};
 
-use crate::stop::Stop;
+use crate::stop::Hindrance;
 use prepare::MOST_BYTES;
 use prepared::given::How;
 use prepared::made::{Prepared, prepared_of};
@@ -50,7 +50,7 @@ fn some_taken<W: Write>(out: &mut W, bytes: &[u8]) -> Option<usize>
 }
 
 // Writes all of some bytes; a device that fails has taken a beginning of them.
-fn put<W: Write>(out: &mut W, bytes: &[u8]) -> Result<(), Stop>
+fn put<W: Write>(out: &mut W, bytes: &[u8]) -> Result<(), Hindrance>
     ensures whole { OnOk result (Takes W.contents out.old out.new bytes.now) }
     ensures begun { OnErr result (TakesFront W.contents out.old out.new bytes.now) }
 {
@@ -60,29 +60,33 @@ fn put<W: Write>(out: &mut W, bytes: &[u8]) -> Result<(), Stop>
         if rest.is_empty() {
             return match out.flush() {
                 Ok(()) => Ok(()),
-                Err(_) => Err(Stop::Device),
+                Err(_) => Err(Hindrance::Device),
             };
         }
         match some_taken(out, rest) {
             Some(count) => rest = &rest[count..],
-            None => return Err(Stop::Device),
+            None => return Err(Hindrance::Device),
         }
     }
-    Err(Stop::Device)
+    Err(Hindrance::Device)
 }
 
 // The text that a reader gives, of the file `file`, if it is not too long.
-pub fn text_over<R: Read + Drop>(rt: &HostRuntime, file: &str, reader: R) -> Result<Vec<u8>, Stop>
+pub fn text_over<R: Read + Drop>(
+    rt: &HostRuntime,
+    file: &str,
+    reader: R,
+) -> Result<Vec<u8>, Hindrance>
     ensures short { IfOk result (λ v. length v.items ≤ MOST_BYTES) }
     ensures read { IfOk result (λ v. IfSome (R.remaining reader) (λ bytes. v.items ≡ bytes)) }
 {
     let text = match text_of(rt.alloc(), reader) {
         Ok(text) => text,
-        Err(error) if error.kind() == io::ErrorKind::OutOfMemory => return Err(Stop::Memory),
-        Err(_) => return Err(Stop::CannotRead(String::from_str(rt.alloc(), file)?)),
+        Err(error) if error.kind() == io::ErrorKind::OutOfMemory => return Err(Hindrance::Memory),
+        Err(_) => return Err(Hindrance::CannotRead(String::from_str(rt.alloc(), file)?)),
     };
     if text.len() > MOST_BYTES {
-        return Err(Stop::Unprepared(Unprepared::TooLong));
+        return Err(Hindrance::Unprepared(Unprepared::TooLong));
     }
     Ok(text)
 }
@@ -94,13 +98,13 @@ pub fn prepare_over<W: Write>(
     called: Called<'_>,
     text: &[u8],
     out: &mut W,
-) -> Result<Prepared, Stop>
+) -> Result<Prepared, Hindrance>
     ensures whole { IfOk result (PreparesOver how.now text.now (W.contents out.old) (W.contents out.new)) }
     ensures begun { OnErr result (BreaksOver how.now text.now (W.contents out.old) (W.contents out.new)) }
 {
     let prepared = match prepared_of(rt, how, text, called) {
         Ok(prepared) => prepared,
-        Err(why) => return Err(Stop::from(why)),
+        Err(why) => return Err(Hindrance::from(why)),
     };
     match put(out, prepared.text.as_slice()) {
         Ok(()) => Ok(prepared),

@@ -35,7 +35,7 @@ a file, 8388608 of all; 4 wrong words, or a file that cannot be opened or read; 
 
 // Why nothing is prepared.
 #[derive(Drop)]
-pub enum Stop {
+pub enum Hindrance {
     Help,
     Words,
     Unprepared(Unprepared),
@@ -45,23 +45,23 @@ pub enum Stop {
     Memory,
 }
 
-impl From<AllocError> for Stop {
-    fn from(_error: AllocError) -> Stop {
-        Stop::Memory
+impl From<AllocError> for Hindrance {
+    fn from(_error: AllocError) -> Hindrance {
+        Hindrance::Memory
     }
 }
 
-impl<T: Drop> From<AllocFailed<T>> for Stop {
-    fn from(_failed: AllocFailed<T>) -> Stop {
-        Stop::Memory
+impl<T: Drop> From<AllocFailed<T>> for Hindrance {
+    fn from(_failed: AllocFailed<T>) -> Hindrance {
+        Hindrance::Memory
     }
 }
 
-impl From<Unprepared> for Stop {
-    fn from(why: Unprepared) -> Stop {
+impl From<Unprepared> for Hindrance {
+    fn from(why: Unprepared) -> Hindrance {
         match why {
-            Unprepared::Memory => Stop::Memory,
-            other => Stop::Unprepared(other),
+            Unprepared::Memory => Hindrance::Memory,
+            other => Hindrance::Unprepared(other),
         }
     }
 }
@@ -82,31 +82,31 @@ fn say_of_file(rt: &HostRuntime, front: &str, name: &str) {
 }
 
 // Shows why nothing is prepared, and answers the status. A message that cannot be shown is left out.
-pub fn tell_stop(rt: &HostRuntime, stop: Stop) -> u8
+pub fn tell_stop(rt: &HostRuntime, stop: Hindrance) -> u8
     ensures { IsStatus stop result }
 {
     match stop {
-        Stop::Help => { if print!(rt; "{HELP}").is_ok() { 0 } else { 6 } }
-        Stop::Words => {
+        Hindrance::Help => { if print!(rt; "{HELP}").is_ok() { 0 } else { 6 } }
+        Hindrance::Words => {
             let _ = eprintln!(rt;
                 "usage: spinprep [--play | --view] [--strict] [--no-cpp] [-DNAME=VALUE] [-IFOLDER] MODEL"
             );
             4
         }
-        Stop::Unprepared(why) => tell_unprepared(rt, PROGRAM, &why),
-        Stop::CannotOpen(name) => {
+        Hindrance::Unprepared(why) => tell_unprepared(rt, PROGRAM, &why),
+        Hindrance::CannotOpen(name) => {
             say_of_file(rt, "cannot open ", name.as_str());
             4
         }
-        Stop::CannotRead(name) => {
+        Hindrance::CannotRead(name) => {
             say_of_file(rt, "cannot read ", name.as_str());
             4
         }
-        Stop::Device => {
+        Hindrance::Device => {
             let _ = eprintln!(rt; "spinprep: device failed");
             6
         }
-        Stop::Memory => {
+        Hindrance::Memory => {
             let _ = eprintln!(rt; "spinprep: out of memory");
             6
         }

@@ -1,13 +1,13 @@
 // The words of the command line.
 
-use crate::stop::Stop;
-use prepared::given::{How, Valued, add_folder, add_line};
+use crate::stop::Hindrance;
+use prepared::given::{How, MacroOption, add_folder, add_line};
 use prepared::unprepared::Unprepared;
 use std::alloc::Global;
 
 // What is asked for.
 #[derive(Drop)]
-pub struct Asked {
+pub struct PreparingCommand {
     pub is_strict: bool,
     // what the preprocessor leaves is written, and nothing is prepared
     pub is_expanded: bool,
@@ -20,8 +20,8 @@ pub struct Asked {
 }
 
 // Words that are wrong by themselves.
-fn odd(words: String) -> Stop {
-    Stop::Unprepared(Unprepared::Odd(words))
+fn odd(words: String) -> Hindrance {
+    Hindrance::Unprepared(Unprepared::Odd(words))
 }
 
 // What the words ask for, as far as they are read.
@@ -58,7 +58,7 @@ impl Reading {
     }
 
     // `-D`, `-U` or `-I` with its value.
-    fn add_valued(&mut self, alloc: Global, valued: Valued<'_>) -> Result<(), Stop> {
+    fn add_valued(&mut self, alloc: Global, valued: MacroOption<'_>) -> Result<(), Hindrance> {
         if valued.letter == 'I' {
             add_folder(alloc, &mut self.folders, valued.value)?;
         } else {
@@ -68,7 +68,7 @@ impl Reading {
     }
 
     // The file, if it is the first.
-    fn add_file(&mut self, alloc: Global, word: &str) -> Result<(), Stop> {
+    fn add_file(&mut self, alloc: Global, word: &str) -> Result<(), Hindrance> {
         match &self.file {
             Some(first) => {
                 let first = first.as_str();
@@ -82,7 +82,7 @@ impl Reading {
     }
 
     // A word that has its value behind it.
-    fn add_with_value(&mut self, alloc: Global, word: &str) -> Result<(), Stop> {
+    fn add_with_value(&mut self, alloc: Global, word: &str) -> Result<(), Hindrance> {
         if let Some(own) = word.strip_prefix("--name=") {
             self.name = Some(String::from_str(alloc, own)?);
         } else if let Some(table) = word.strip_prefix("--lines=") {
@@ -102,20 +102,20 @@ impl Reading {
     }
 
     // A letter with its value in the same word, or in the next.
-    fn add_lettered(&mut self, alloc: Global, letter: char, value: &str) -> Result<(), Stop> {
+    fn add_lettered(&mut self, alloc: Global, letter: char, value: &str) -> Result<(), Hindrance> {
         if value.is_empty() {
             self.waiting = Some(letter);
             return Ok(());
         }
-        self.add_valued(alloc, Valued { letter, value })
+        self.add_valued(alloc, MacroOption { letter, value })
     }
 
     // One word more.
-    fn add(&mut self, alloc: Global, word: &str) -> Result<(), Stop> {
+    fn add(&mut self, alloc: Global, word: &str) -> Result<(), Hindrance> {
         if let Some(letter) = self.waiting.take() {
             return self.add_valued(
                 alloc,
-                Valued {
+                MacroOption {
                     letter,
                     value: word,
                 },
@@ -125,8 +125,8 @@ impl Reading {
             return self.add_file(alloc, word);
         }
         match word {
-            "--help" => return Err(Stop::Help),
-            "-h" => return Err(Stop::Help),
+            "--help" => return Err(Hindrance::Help),
+            "-h" => return Err(Hindrance::Help),
             "--strict" => self.is_strict = true,
             "--no-cpp" => self.is_plain = true,
             "--expand" => self.is_expanded = true,
@@ -137,7 +137,7 @@ impl Reading {
     }
 
     // What they ask for.
-    fn asked(self, alloc: Global) -> Result<Asked, Stop> {
+    fn asked(self, alloc: Global) -> Result<PreparingCommand, Hindrance> {
         let Reading {
             is_strict,
             is_plain,
@@ -154,9 +154,9 @@ impl Reading {
             return Err(odd(format!(in alloc; "-{letter} wants a value")?));
         }
         let Some(file) = file else {
-            return Err(Stop::Words);
+            return Err(Hindrance::Words);
         };
-        Ok(Asked {
+        Ok(PreparingCommand {
             is_strict,
             is_expanded,
             file,
@@ -172,7 +172,7 @@ impl Reading {
 }
 
 // What these words ask for.
-pub fn asked_by(alloc: Global, words: &[String]) -> Result<Asked, Stop> {
+pub fn asked_by(alloc: Global, words: &[String]) -> Result<PreparingCommand, Hindrance> {
     let mut reading = Reading::new(alloc);
     for word in words {
         reading.add(alloc, word.as_str())?;

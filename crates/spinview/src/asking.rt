@@ -7,17 +7,17 @@ use crate::opened::Files;
 use crate::output::show_lines;
 use crate::runs::{sheet_of, tell_choices, why_unread};
 use crate::shown::without_end;
-use crate::stop::{Device, NoView, failed};
+use crate::stop::{NoView, RunDevice, failed};
 use devices::SliceSource;
 use program_files::reading::ReadChoices;
 use std::alloc::AllocError;
 use std::io::{BufRead, BufReader};
 use view_json::lines::add_end;
 use view_run::lines::Sheet;
-use view_session::replay::{Reading, Replay};
+use view_session::replay::{Replay, ReplayReading};
 use view_session::seen::picture_of;
 use view_walk::walk::Walk;
-use view_words::Asked;
+use view_words::Wishes;
 
 // What a line asks for.
 #[derive(Clone, Copy)]
@@ -75,7 +75,7 @@ fn add_bad_line(walk: &Walk<'_, '_>, sheet: &mut Sheet) -> Result<(), AllocError
 fn obey(
     rt: &HostRuntime,
     walk: &mut Walk<'_, '_>,
-    asked: &Asked,
+    asked: &Wishes,
     line: &[u8],
     sheet: &mut Sheet,
 ) -> Result<(), NoView>
@@ -93,7 +93,7 @@ fn obey(
     };
     let limit = walk.at().saturating_add(most);
     let answers = SliceSource::new(choice.as_bytes());
-    let mut replay = Replay::Read(Reading::new(answers));
+    let mut replay = Replay::Read(ReplayReading::new(answers));
     go_on(rt, walk, &mut replay, limit, false, sheet)?;
     Ok(())
 }
@@ -118,7 +118,7 @@ fn show_all(
 fn answer_lines(
     rt: &HostRuntime,
     walk: &mut Walk<'_, '_>,
-    asked: &Asked,
+    asked: &Wishes,
     files: &mut Files,
     sheet: &mut Sheet,
 ) -> Result<(), NoView>
@@ -134,7 +134,7 @@ fn answer_lines(
         match input.read_until(b'\n', &mut line) {
             Ok(0) => break,
             Ok(_) => {}
-            Err(error) => return Err(failed(Device::Input, error)),
+            Err(error) => return Err(failed(RunDevice::Input, error)),
         }
         obey(rt, walk, asked, without_end(line.as_slice()), sheet)?;
         show_all(rt, walk, files, sheet)?;
@@ -147,7 +147,7 @@ pub fn run_asking(
     rt: &HostRuntime,
     walk: &mut Walk<'_, '_>,
     replay: &mut Replay<ReadChoices>,
-    asked: &Asked,
+    asked: &Wishes,
     files: &mut Files,
 ) -> Result<(), NoView>
     ensures { SameModel walk.old walk.new }

@@ -15,10 +15,10 @@ use view_session::replay::Replay;
 use view_session::seen::picture_of;
 use view_text::writer::Writer;
 use view_walk::walk::Walk;
-use view_words::Asked;
+use view_words::Wishes;
 
 // Writes the line of a state with which lines begin. The moves of that state.
-pub fn begin(walk: &Walk<'_, '_>, asked: &Asked, sheet: &mut Sheet) -> Result<Vec<Move>, NoView>
+pub fn begin(walk: &Walk<'_, '_>, asked: &Wishes, sheet: &mut Sheet) -> Result<Vec<Move>, NoView>
     ensures { IfOk result (λ v. v.items ≡ world_moves walk.now.state) }
 {
     let moves = walk.moves()?;
@@ -38,7 +38,7 @@ pub fn begin(walk: &Walk<'_, '_>, asked: &Asked, sheet: &mut Sheet) -> Result<Ve
 fn skip<S: Source>(
     walk: &mut Walk<'_, '_>,
     replay: &mut Replay<S>,
-    asked: &Asked,
+    asked: &Wishes,
     sheet: &mut Sheet,
 ) -> Result<Option<&'static str>, NoView>
     ensures { SameModel walk.old walk.new }
@@ -60,7 +60,7 @@ fn begin_behind<S: Source>(
     rt: &HostRuntime,
     walk: &mut Walk<'_, '_>,
     replay: &mut Replay<S>,
-    asked: &Asked,
+    asked: &Wishes,
     moves: &mut Vec<Move>,
     sheet: &mut Sheet,
 ) -> Result<Option<&'static str>, NoView>
@@ -144,7 +144,7 @@ pub fn run_lines<S: Source>(
     rt: &HostRuntime,
     walk: &mut Walk<'_, '_>,
     replay: &mut Replay<S>,
-    asked: &Asked,
+    asked: &Wishes,
     is_kept: bool,
     sheet: &mut Sheet,
 ) -> Result<&'static str, NoView>

@@ -15,7 +15,7 @@ mod writing;
 
 ghost use Rattle.view_walk.specs.Walks.{SameModel};
 
-use opened::{Files, Opened, Texts, has_session, open_all};
+use opened::{Files, Opened, RunTexts, has_session, open_all};
 use output::show;
 use pml_check::Checked;
 use pml_play::{Rejection, checked_of, expanded_of};
@@ -31,7 +31,7 @@ use trails::{Led, follow};
 use view_session::answers::Setting;
 use view_trail::marks::Marks;
 use view_walk::walk::Walk;
-use view_words::{Asked, read};
+use view_words::{Wishes, read};
 
 fn words_of(rt: &HostRuntime) -> Result<Vec<String>, NoView> {
     match env::args(rt) {
@@ -42,7 +42,7 @@ fn words_of(rt: &HostRuntime) -> Result<Vec<String>, NoView> {
 }
 
 // What the words of the command line ask for.
-fn asked_of(rt: &HostRuntime) -> Result<Asked, NoView> {
+fn asked_of(rt: &HostRuntime) -> Result<Wishes, NoView> {
     let words = words_of(rt)?;
     let texts: Vec<&str> = words.iter().map(|word| word.as_str()).collect(rt.alloc())?;
     match read(rt.alloc(), texts.as_slice()) {
@@ -53,7 +53,7 @@ fn asked_of(rt: &HostRuntime) -> Result<Asked, NoView> {
 }
 
 // There is no model: memory ran out, or the text is refused, which is said.
-fn rejected(rt: &HostRuntime, asked: &Asked, texts: &Texts, rejection: Rejection) -> NoView {
+fn rejected(rt: &HostRuntime, asked: &Wishes, texts: &RunTexts, rejection: Rejection) -> NoView {
     match rejection {
         Rejection::Memory => NoView::Memory,
         Rejection::Refused(refusal, line) => {
@@ -66,8 +66,8 @@ fn rejected(rt: &HostRuntime, asked: &Asked, texts: &Texts, rejection: Rejection
 // Follows the trail that is asked for, and says where it does not fit, and in a session what Spin said.
 fn along_trail(
     rt: &HostRuntime,
-    asked: &Asked,
-    texts: &Texts,
+    asked: &Wishes,
+    texts: &RunTexts,
     marks: &Marks,
     walk: &mut Walk<'_, '_>,
 ) -> Result<Option<Led>, NoView>
@@ -85,8 +85,8 @@ fn along_trail(
 
 fn view_walk(
     rt: &HostRuntime,
-    asked: &Asked,
-    texts: &Texts,
+    asked: &Wishes,
+    texts: &RunTexts,
     files: Files,
     marks: &Marks,
     walk: Walk<'_, '_>,
@@ -112,8 +112,8 @@ fn view_walk(
 
 fn view_model(
     rt: &HostRuntime,
-    asked: &Asked,
-    texts: &Texts,
+    asked: &Wishes,
+    texts: &RunTexts,
     files: Files,
     marks: &Marks,
     checked: &Checked<'_>,
@@ -126,8 +126,8 @@ fn view_model(
 
 fn view_tokens<'a>(
     rt: &HostRuntime,
-    asked: &Asked,
-    texts: &Texts,
+    asked: &Wishes,
+    texts: &RunTexts,
     files: Files,
     tokens: &'a [Token<'a>],
 ) -> Result<(), NoView> {
@@ -141,14 +141,19 @@ fn view_tokens<'a>(
     }
 }
 
-fn view_text(rt: &HostRuntime, asked: &Asked, texts: &Texts, files: Files) -> Result<(), NoView> {
+fn view_text(
+    rt: &HostRuntime,
+    asked: &Wishes,
+    texts: &RunTexts,
+    files: Files,
+) -> Result<(), NoView> {
     match expanded_of(rt.alloc(), texts.model.bytes.as_slice()) {
         Ok(tokens) => view_tokens(rt, asked, texts, files, tokens.as_slice()),
         Err(rejection) => Err(rejected(rt, asked, texts, rejection)),
     }
 }
 
-fn view(rt: &HostRuntime, asked: &Asked) -> Result<(), NoView> {
+fn view(rt: &HostRuntime, asked: &Wishes) -> Result<(), NoView> {
     let Opened { texts, files } = open_all(rt, asked)?;
     view_text(rt, asked, &texts, files)
 }

@@ -3,35 +3,35 @@ use crate::stop::NoView;
 use crate::telling::{PROGRAM, shown_name};
 use crate::writing::{PageFile, Record};
 use program_files::fault::{NoFile, not_opened, not_read};
-use program_files::held::{Held, Role};
+use program_files::held::{FileRole, Held};
 use program_files::identity::{Identity, identity_at};
-use program_files::input::{Choices, Input, choices_in};
+use program_files::input::{ChoiceInput, Input, choices_in};
 use program_files::models;
 use program_files::models::{Model, model_in};
-use program_files::texts::{MOST_SOURCE, Text, text_of};
+use program_files::texts::{FileText, MOST_SOURCE, text_of};
 use std::alloc::Global;
 use std::{fs, io};
-use streams::followed::Followed;
-use view_words::{Asked, Form};
+use streams::followed::FollowedReader;
+use view_words::{RunForm, Wishes};
 
 // At most so many bytes of a trail are read.
 const MOST_TRAIL: u64 = 268_435_456;
 
 // Whether lines are read and answered.
-pub fn has_session(asked: &Asked) -> bool {
-    asked.form == Form::Session && asked.page.is_none() && asked.seed.is_none()
+pub fn has_session(asked: &Wishes) -> bool {
+    asked.form == RunForm::Session && asked.page.is_none() && asked.seed.is_none()
 }
 
 // The texts of a run.
 #[derive(Drop)]
-pub struct Texts {
+pub struct RunTexts {
     pub model: Model,
     // the text of another file, of which the model was prepared
     pub source: Option<Vec<u8>>,
     pub trail: Option<Vec<u8>>,
 }
 
-impl Texts {
+impl RunTexts {
     // The text whose lines are shown.
     pub fn shown(&self) -> &[u8] {
         match (&self.model.own, &self.source) {
@@ -46,7 +46,7 @@ impl Texts {
 #[derive(Drop)]
 pub struct Files {
     // the choices that are taken without a question
-    pub choices: Option<Followed<Input>>,
+    pub choices: Option<FollowedReader<Input>>,
     pub rec: Option<Record>,
     pub page: Option<PageFile>,
     pub held: Held,
@@ -55,7 +55,7 @@ pub struct Files {
 // All that a run is over.
 #[derive(Drop)]
 pub struct Opened {
-    pub texts: Texts,
+    pub texts: RunTexts,
     pub files: Files,
 }
 
@@ -63,7 +63,7 @@ pub struct Opened {
 fn source_in(
     rt: &HostRuntime,
     name: &Option<String>,
-    role: Role,
+    role: FileRole,
     held: &mut Held,
 ) -> Result<Option<Vec<u8>>, NoFile> {
     let Some(name) = name else {
@@ -81,7 +81,7 @@ fn source_in(
 }
 
 // A trail that is not read whole is none.
-fn whole(alloc: Global, name: &str, text: Text) -> Result<Text, NoFile> {
+fn whole(alloc: Global, name: &str, text: FileText) -> Result<FileText, NoFile> {
     if text.bytes.len() as u64 > MOST_TRAIL {
         let error = io::Error::new(
             io::ErrorKind::InvalidData,
@@ -103,30 +103,30 @@ fn trail_in(
     };
     let read = text_of(rt, name.as_str(), MOST_TRAIL + 1)?;
     let text = whole(rt.alloc(), name.as_str(), read)?;
-    held.add(text.file, Role::Trail)?;
+    held.add(text.file, FileRole::Trail)?;
     Ok(Some(text.bytes))
 }
 
-fn followed(rt: &HostRuntime, choices: Choices) -> Followed<Input> {
-    Followed::new(rt.alloc(), choices.input)
+fn followed(rt: &HostRuntime, choices: ChoiceInput) -> FollowedReader<Input> {
+    FollowedReader::new(rt.alloc(), choices.input)
 }
 
 // The choices that are taken without a question, where there are any: of a file, or of standard input where there is no session.
 fn choices_asked(
     rt: &HostRuntime,
-    asked: &Asked,
+    asked: &Wishes,
     held: &mut Held,
-) -> Result<Option<Followed<Input>>, NoFile> {
+) -> Result<Option<FollowedReader<Input>>, NoFile> {
     if let Some(name) = &asked.choices {
         let choices = choices_in(rt, name.as_str())?;
-        held.add(choices.file, Role::Choices)?;
+        held.add(choices.file, FileRole::Choices)?;
         return Ok(Some(followed(rt, choices)));
     }
     let is_asked = has_session(asked) || asked.asks || asked.serves;
     if is_asked || asked.seed.is_some() || asked.trail.is_some() {
         return Ok(None);
     }
-    let standard = Choices {
+    let standard = ChoiceInput {
         input: Input::Standard(rt.stdin()),
         file: None,
     };
@@ -134,8 +134,8 @@ fn choices_asked(
 }
 
 // The model that is asked for, prepared if that is asked for too.
-fn model_asked(rt: &HostRuntime, asked: &Asked) -> Result<Model, NoFile> {
-    let wanted = models::Asked {
+fn model_asked(rt: &HostRuntime, asked: &Wishes) -> Result<Model, NoFile> {
+    let wanted = models::ModelOptions {
         file: asked.model.as_str(),
         name: shown_name(asked),
         prepare: asked.prepare,
@@ -146,12 +146,12 @@ fn model_asked(rt: &HostRuntime, asked: &Asked) -> Result<Model, NoFile> {
     model_in(rt, PROGRAM, wanted)
 }
 
-fn texts_of(rt: &HostRuntime, asked: &Asked, held: &mut Held) -> Result<Texts, NoFile> {
+fn texts_of(rt: &HostRuntime, asked: &Wishes, held: &mut Held) -> Result<RunTexts, NoFile> {
     let model = model_asked(rt, asked)?;
-    held.add(model.file, Role::Model)?;
-    let source = source_in(rt, &asked.source, Role::Model, held)?;
-    let _ = source_in(rt, &asked.lines, Role::Lines, held)?;
-    Ok(Texts {
+    held.add(model.file, FileRole::Model)?;
+    let source = source_in(rt, &asked.source, FileRole::Model, held)?;
+    let _ = source_in(rt, &asked.lines, FileRole::Lines, held)?;
+    Ok(RunTexts {
         model,
         source,
         trail: trail_in(rt, &asked.trail, held)?,
@@ -160,9 +160,9 @@ fn texts_of(rt: &HostRuntime, asked: &Asked, held: &mut Held) -> Result<Texts, N
 
 // Notes the files that the program was begun with.
 fn add_standard(rt: &HostRuntime, held: &mut Held) -> Result<(), NoFile> {
-    let standard: [(&str, Role); 2] = [
-        ("/dev/stdin", Role::Choices),
-        ("/dev/stdout", Role::Output),
+    let standard: [(&str, FileRole); 2] = [
+        ("/dev/stdin", FileRole::Choices),
+        ("/dev/stdout", FileRole::Output),
     ];
     for (name, role) in standard {
         let file: Option<Identity> = identity_at(rt, name)?;
@@ -172,7 +172,7 @@ fn add_standard(rt: &HostRuntime, held: &mut Held) -> Result<(), NoFile> {
 }
 
 // Opens all: what is written keeps what it holds.
-pub fn open_all(rt: &HostRuntime, asked: &Asked) -> Result<Opened, NoView> {
+pub fn open_all(rt: &HostRuntime, asked: &Wishes) -> Result<Opened, NoView> {
     let mut held = Held::new(rt.alloc());
     let texts = texts_of(rt, asked, &mut held)?;
     let choices = choices_asked(rt, asked, &mut held)?;

@@ -1,5 +1,5 @@
 // What goes to standard output: bytes that others wrote are shown as a terminal can show them, and lines of JSON have their escapes.
-use crate::stop::{Device, NoView, failed};
+use crate::stop::{NoView, RunDevice, failed};
 use std::fs;
 use std::io::Write;
 use view_foreign::escaped::add_escaped;
@@ -21,7 +21,7 @@ fn send(rt: &HostRuntime, out: &Writer) -> Result<(), NoView> {
     }
     match rt.stdout().write_all(out.bytes()) {
         Ok(()) => Ok(()),
-        Err(error) => Err(failed(Device::Output, error)),
+        Err(error) => Err(failed(RunDevice::Output, error)),
     }
 }
 
@@ -42,7 +42,7 @@ fn send_if(rt: &HostRuntime, prompts: bool, text: &[u8]) -> Result<(), NoView> {
     }
     match rt.stdout().write_all(text) {
         Ok(()) => Ok(()),
-        Err(error) => Err(failed(Device::Output, error)),
+        Err(error) => Err(failed(RunDevice::Output, error)),
     }
 }
 

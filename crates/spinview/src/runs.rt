@@ -7,7 +7,7 @@ use crate::lines::run_lines;
 use crate::opened::Files;
 use crate::output::{show, show_lines};
 use crate::serving::run_driven;
-use crate::stop::{Device, NoView};
+use crate::stop::{NoView, RunDevice};
 use crate::telling::shown_name;
 use crate::trails::Led;
 use crate::writing::PageFile;
@@ -24,11 +24,11 @@ use view_run::plain::run;
 use view_run::steps::add_step;
 use view_session::charted::{add_chart, most_alive};
 use view_session::notes::Notes;
-use view_session::replay::{Along, Reading, Replay};
+use view_session::replay::{Along, Replay, ReplayReading};
 use view_session::told::Told;
 use view_text::writer::Writer;
 use view_walk::walk::Walk;
-use view_words::{Asked, Form};
+use view_words::{RunForm, Wishes};
 
 // So many bytes are written at once.
 pub const AT_ONCE: usize = 60_000;
@@ -36,7 +36,7 @@ pub const AT_ONCE: usize = 60_000;
 // The choices of a run: along a trail, of a file or of standard input, or of a generator.
 fn replay_of(
     rt: &HostRuntime,
-    asked: &Asked,
+    asked: &Wishes,
     files: &mut Files,
     led: Option<Led>,
 ) -> Replay<ReadChoices> {
@@ -44,7 +44,7 @@ fn replay_of(
         return Replay::Along(led.along, led.notes);
     }
     match (files.choices.take(), asked.seed) {
-        (Some(choices), _) => Replay::Read(Reading::new(ReadChoices::new(choices))),
+        (Some(choices), _) => Replay::Read(ReplayReading::new(ReadChoices::new(choices))),
         (None, Some(seed)) => Replay::Chance(Pcg32::new(u64::from(seed), 54)),
         (None, None) => Replay::Along(Along::Stop(Answer::Ended), Notes::new(rt.alloc())),
     }
@@ -69,7 +69,7 @@ pub fn sheet_of(rt: &HostRuntime, replay: &mut Replay<ReadChoices>) -> Sheet
 }
 
 // What the choices are called.
-fn choices_name(asked: &Asked) -> &str {
+fn choices_name(asked: &Wishes) -> &str {
     match &asked.choices {
         Some(name) => name.as_str(),
         None => "standard input",
@@ -86,7 +86,7 @@ fn tell_bad_lines(rt: &HostRuntime, name: &str, count: u32) {
 }
 
 // Says which line of the choices does not fit, and whether some were bad.
-pub fn tell_choices(rt: &HostRuntime, asked: &Asked, replay: &Replay<ReadChoices>, end: &str) {
+pub fn tell_choices(rt: &HostRuntime, asked: &Wishes, replay: &Replay<ReadChoices>, end: &str) {
     let Replay::Read(reading) = replay else {
         return;
     };
@@ -112,12 +112,12 @@ fn same(error: &io::Error) -> io::Error {
 // Why a run stopped; of choices that cannot be read with what the system said of them.
 pub fn why_unread(stop: NoView, replay: &Replay<ReadChoices>) -> NoView {
     match (stop, replay) {
-        (NoView::Failed(Device::Choices, None), Replay::Read(reading)) => {
+        (NoView::Failed(RunDevice::Choices, None), Replay::Read(reading)) => {
             let why = match &reading.devices.source.error {
                 Some(error) => Some(same(error)),
                 None => None,
             };
-            NoView::Failed(Device::Choices, why)
+            NoView::Failed(RunDevice::Choices, why)
         }
         (stop, _) => stop,
     }
@@ -180,7 +180,7 @@ fn run_chart(
 fn write_page(
     rt: &HostRuntime,
     file: &mut PageFile,
-    asked: &Asked,
+    asked: &Wishes,
     model: &[u8],
     sheet: &Sheet,
 ) -> Result<(), NoView> {
@@ -206,7 +206,7 @@ fn run_sheet(
     rt: &HostRuntime,
     walk: &mut Walk<'_, '_>,
     replay: &mut Replay<ReadChoices>,
-    asked: &Asked,
+    asked: &Wishes,
     model: &[u8],
     page: &mut Option<PageFile>,
 ) -> Result<&'static str, NoView>
@@ -214,7 +214,7 @@ fn run_sheet(
 {
     let mut sheet = sheet_of(rt, replay);
     let end = run_lines(rt, walk, replay, asked, page.is_some(), &mut sheet)?;
-    if asked.form == Form::Json {
+    if asked.form == RunForm::Json {
         show_lines(rt, &sheet.lines)?;
     }
     if let Some(file) = page {
@@ -252,16 +252,16 @@ fn run_forms(
     rt: &HostRuntime,
     walk: &mut Walk<'_, '_>,
     replay: &mut Replay<ReadChoices>,
-    asked: &Asked,
+    asked: &Wishes,
     model: &[u8],
     page: &mut Option<PageFile>,
 ) -> Result<&'static str, NoView>
     ensures { SameModel walk.old walk.new }
 {
     let limit = asked.limit as usize;
-    if asked.form == Form::Json || page.is_some() {
+    if asked.form == RunForm::Json || page.is_some() {
         let end = run_sheet(rt, walk, replay, asked, model, page)?;
-        if asked.form != Form::Chart {
+        if asked.form != RunForm::Chart {
             return Ok(end);
         }
         let steps = walk.legs().len();
@@ -269,7 +269,7 @@ fn run_forms(
         return write_chart(rt, walk, replay, most, end);
     }
     match asked.form {
-        Form::Chart => run_chart(rt, walk, replay, limit),
+        RunForm::Chart => run_chart(rt, walk, replay, limit),
         _ => run_steps(rt, walk, replay, limit),
     }
 }
@@ -278,7 +278,7 @@ fn run_forms(
 pub fn run_all(
     rt: &HostRuntime,
     walk: &mut Walk<'_, '_>,
-    asked: &Asked,
+    asked: &Wishes,
     model: &[u8],
     files: &mut Files,
     led: Option<Led>,

@@ -7,18 +7,18 @@ use crate::opened::Files;
 use crate::output::show_lines;
 use crate::runs::{name_of, sheet_of, tell_choices, why_unread};
 use crate::shown::without_end;
-use crate::stop::{Device, NoView, failed};
+use crate::stop::{NoView, RunDevice, failed};
 use crate::telling::shown_name;
 use program_files::reading::ReadChoices;
 use std::io::{BufRead, BufReader, ErrorKind};
 use view_run::lines::Sheet;
 use view_session::replay::Replay;
 use view_walk::walk::Walk;
-use view_words::Asked;
+use view_words::Wishes;
 use walk_answers::request::Request;
-use walk_lines::answers::{Answered, Run, Setting, add_state, answer, ask};
+use walk_lines::answers::{Answered, LinesSetting, PendingSteps, add_state, answer, ask};
 use walk_lines::lines::add_error;
-use walk_lines::requests::{MOST_LINE, Unread, request_of};
+use walk_lines::requests::{MOST_LINE, UnreadRequest, request_of};
 
 // So many bytes are written at once.
 const AT_ONCE: usize = 60_000;
@@ -44,7 +44,7 @@ fn take_steps(
     rt: &HostRuntime,
     walk: &mut Walk<'_, '_>,
     limit: usize,
-    run: Run,
+    run: PendingSteps,
     sheet: &mut Sheet,
 ) -> Result<(), NoView>
     ensures { SameModel walk.old walk.new }
@@ -68,7 +68,7 @@ fn take_steps(
 fn obey(
     rt: &HostRuntime,
     walk: &mut Walk<'_, '_>,
-    setting: Setting<'_>,
+    setting: LinesSetting<'_>,
     request: &Request,
     sheet: &mut Sheet,
 ) -> Result<(), NoView>
@@ -85,7 +85,7 @@ fn obey(
 fn answer_line(
     rt: &HostRuntime,
     walk: &mut Walk<'_, '_>,
-    setting: Setting<'_>,
+    setting: LinesSetting<'_>,
     line: &[u8],
     sheet: &mut Sheet,
 ) -> Result<(), NoView>
@@ -93,7 +93,7 @@ fn answer_line(
 {
     match request_of(rt.alloc(), without_end(line)) {
         Ok(request) => obey(rt, walk, setting, &request, sheet),
-        Err(Unread::Memory) => Err(NoView::Memory),
+        Err(UnreadRequest::Memory) => Err(NoView::Memory),
         Err(unread) => {
             add_error(unread.words().as_bytes(), &mut sheet.lines);
             Ok(())
@@ -120,7 +120,7 @@ fn read_line<R: BufRead>(input: &mut R, line: &mut Vec<u8>) -> Result<bool, NoVi
         let held = match input.fill_buf() {
             Ok(held) => held,
             Err(error) if error.kind() == ErrorKind::Interrupted => continue,
-            Err(error) => return Err(failed(Device::Input, error)),
+            Err(error) => return Err(failed(RunDevice::Input, error)),
         };
         if held.is_empty() {
             break;
@@ -141,7 +141,7 @@ fn read_line<R: BufRead>(input: &mut R, line: &mut Vec<u8>) -> Result<bool, NoVi
 fn answer_lines(
     rt: &HostRuntime,
     walk: &mut Walk<'_, '_>,
-    setting: Setting<'_>,
+    setting: LinesSetting<'_>,
     files: &mut Files,
     sheet: &mut Sheet,
 ) -> Result<(), NoView>
@@ -167,7 +167,7 @@ fn take_first(
     rt: &HostRuntime,
     walk: &mut Walk<'_, '_>,
     replay: &mut Replay<ReadChoices>,
-    asked: &Asked,
+    asked: &Wishes,
     sheet: &mut Sheet,
 ) -> Result<(), NoView>
     ensures { SameModel walk.old walk.new }
@@ -189,12 +189,12 @@ pub fn run_driven(
     rt: &HostRuntime,
     walk: &mut Walk<'_, '_>,
     replay: &mut Replay<ReadChoices>,
-    asked: &Asked,
+    asked: &Wishes,
     files: &mut Files,
 ) -> Result<(), NoView>
     ensures { SameModel walk.old walk.new }
 {
-    let setting = Setting {
+    let setting = LinesSetting {
         name: name_of(shown_name(asked)),
         is_lossy: asked.is_lossy,
         limit: asked.limit as usize,

@@ -5,7 +5,7 @@ ghost use Rattle.view_walk.specs.Walks.{SameModel};
 use crate::opened::Files;
 use crate::output::{end_prompt, is_typed, prompt, show};
 use crate::runs::{tell_choices, why_unread};
-use crate::stop::{Device, NoView, failed};
+use crate::stop::{NoView, RunDevice, failed};
 use crate::trails::Led;
 use crate::writing::{Unsaved, save};
 use program_files::reading::ReadChoices;
@@ -14,12 +14,12 @@ use std::alloc::AllocError;
 use std::io::{BufRead, BufReader};
 use view_session::answers::{Reply, Setting, answer, begin, go_further, resume};
 use view_session::record::choice_count;
-use view_session::replay::{Along, Reading, Replay, end_of};
+use view_session::replay::{Along, Replay, ReplayReading, end_of};
 use view_session::steps::choose;
 use view_session::told::Told;
 use view_text::writer::Writer;
 use view_walk::walk::{Walk, Went};
-use view_words::Asked;
+use view_words::Wishes;
 
 // What a session tells, and the file that was named to save in, where it was asked about.
 #[derive(Drop)]
@@ -216,7 +216,7 @@ fn take_all(
 fn take_first(
     rt: &HostRuntime,
     walk: &mut Walk<'_, '_>,
-    asked: &Asked,
+    asked: &Wishes,
     files: &mut Files,
 ) -> Result<(), NoView>
     ensures { SameModel walk.old walk.new }
@@ -224,7 +224,7 @@ fn take_first(
     let Some(choices) = files.choices.take() else {
         return Ok(());
     };
-    let mut replay = Replay::Read(Reading::new(ReadChoices::new(choices)));
+    let mut replay = Replay::Read(ReplayReading::new(ReadChoices::new(choices)));
     match take_all(rt, walk, &mut replay, asked.limit as usize) {
         Ok(said) => {
             tell_choices(rt, asked, &replay, end_of(said));
@@ -238,7 +238,7 @@ fn take_first(
 fn begin_behind(
     rt: &HostRuntime,
     walk: &mut Walk<'_, '_>,
-    asked: &Asked,
+    asked: &Wishes,
     files: &mut Files,
     along: Option<Along>,
     told: &mut Told,
@@ -289,7 +289,7 @@ fn answer_lines(
                 break;
             }
             Ok(_) => {}
-            Err(error) => return Err(failed(Device::Input, error)),
+            Err(error) => return Err(failed(RunDevice::Input, error)),
         }
         if !answer_line(
             rt,
@@ -309,7 +309,7 @@ fn answer_lines(
 pub fn run_session(
     rt: &HostRuntime,
     walk: &mut Walk<'_, '_>,
-    asked: &Asked,
+    asked: &Wishes,
     setting: Setting<'_>,
     files: &mut Files,
     led: Option<Led>,

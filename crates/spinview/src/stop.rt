@@ -6,21 +6,21 @@ use std::io;
 
 // A device that a run is shown over.
 #[derive(Clone, Copy)]
-pub enum Device {
+pub enum RunDevice {
     Choices,
     Input,
     Output,
     Record,
 }
 
-impl Device {
+impl RunDevice {
     // What it is called.
     pub fn words(self) -> &'static str {
         match self {
-            Device::Choices => "choices",
-            Device::Input => "input",
-            Device::Output => "output",
-            Device::Record => "record",
+            RunDevice::Choices => "choices",
+            RunDevice::Input => "input",
+            RunDevice::Output => "output",
+            RunDevice::Record => "record",
         }
     }
 }
@@ -39,7 +39,7 @@ pub enum NoView {
     Misfit,
     Memory,
     // A device failed, and perhaps it said why.
-    Failed(Device, Option<io::Error>),
+    Failed(RunDevice, Option<io::Error>),
 }
 
 impl From<AllocError> for NoView {
@@ -62,15 +62,15 @@ impl From<Broken> for NoView {
     fn from(broken: Broken) -> NoView {
         match broken {
             Broken::Memory => NoView::Memory,
-            Broken::Source => NoView::Failed(Device::Choices, None),
-            Broken::Out => NoView::Failed(Device::Output, None),
-            Broken::Record => NoView::Failed(Device::Record, None),
+            Broken::Source => NoView::Failed(RunDevice::Choices, None),
+            Broken::Out => NoView::Failed(RunDevice::Output, None),
+            Broken::Record => NoView::Failed(RunDevice::Record, None),
         }
     }
 }
 
 // Why a device failed, unless memory was refused.
-pub fn failed(device: Device, error: io::Error) -> NoView {
+pub fn failed(device: RunDevice, error: io::Error) -> NoView {
     if error.kind() == io::ErrorKind::OutOfMemory {
         NoView::Memory
     } else {

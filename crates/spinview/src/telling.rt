@@ -1,20 +1,20 @@
 // What standard error says. A message that cannot be shown is left out.
-use crate::stop::{Device, NoView};
+use crate::stop::{NoView, RunDevice};
 use diagnostics::Refusal;
 use program_files::fault::NoFile;
 use program_files::models::Model;
-use program_files::refusal::{Shown, explained, explained_beside};
+use program_files::refusal::{ExplainedText, explained, explained_beside};
 use program_files::telling::{explain_device, tell_file};
-use program_files::words::{Program, tell_words};
+use program_files::words::{FrontEnd, tell_words};
 use std::alloc::{AllocError, Global};
 use std::io;
-use view_words::Asked;
+use view_words::Wishes;
 
 // What the program is called in what it says.
 pub const PROGRAM: &str = "spinview";
 
 // Says that a device failed, and which, where that is asked for.
-fn tell_device(rt: &HostRuntime, device: Device, why: Option<&io::Error>, explains: bool) {
+fn tell_device(rt: &HostRuntime, device: RunDevice, why: Option<&io::Error>, explains: bool) {
     let _ = eprintln!(rt; "spinview: device failed");
     if explains {
         explain_device(rt, PROGRAM, device.words(), why);
@@ -24,7 +24,7 @@ fn tell_device(rt: &HostRuntime, device: Device, why: Option<&io::Error>, explai
 // Says why there was nothing to see, and answers the status.
 pub fn tell_stop(rt: &HostRuntime, stop: &NoView, explains: bool) -> u8 {
     match stop {
-        NoView::Words(error) => tell_words(rt, Program::View, error),
+        NoView::Words(error) => tell_words(rt, FrontEnd::View, error),
         NoView::NotText => {
             let _ = eprintln!(rt; "error: invalid UTF-8 was detected in one or more arguments");
             4
@@ -50,7 +50,7 @@ pub fn tell_stop(rt: &HostRuntime, stop: &NoView, explains: bool) -> u8 {
 }
 
 // What a model is called.
-pub fn shown_name(asked: &Asked) -> &str {
+pub fn shown_name(asked: &Wishes) -> &str {
     match &asked.name {
         Some(name) => name.as_str(),
         None => asked.model.as_str(),
@@ -65,7 +65,7 @@ fn for_view(alloc: Global, words: String) -> Result<String, AllocError> {
 // Why a model is refused, and where, with the lines of what it was prepared of.
 fn words_of_refusal(
     rt: &HostRuntime,
-    asked: &Asked,
+    asked: &Wishes,
     model: &Model,
     refusal: Refusal,
 ) -> Result<String, NoFile> {
@@ -73,7 +73,7 @@ fn words_of_refusal(
     if let Some(own) = &model.own {
         return explained_beside(rt, shown_name(asked), text, own, refusal);
     }
-    let shown = Shown {
+    let shown = ExplainedText {
         name: shown_name(asked),
         text,
         source: &asked.source,
@@ -83,7 +83,7 @@ fn words_of_refusal(
 }
 
 // Says why a model is refused, and where, unless memory is refused for it.
-fn explain_refusal(rt: &HostRuntime, asked: &Asked, model: &Model, refusal: Refusal) {
+fn explain_refusal(rt: &HostRuntime, asked: &Wishes, model: &Model, refusal: Refusal) {
     if let Ok(words) = words_of_refusal(rt, asked, model, refusal) {
         if let Ok(words) = for_view(rt.alloc(), words) {
             let _ = eprint!(rt; "{words}");
@@ -92,7 +92,7 @@ fn explain_refusal(rt: &HostRuntime, asked: &Asked, model: &Model, refusal: Refu
 }
 
 // Says that the model is refused, and why.
-pub fn tell_refusal(rt: &HostRuntime, asked: &Asked, model: &Model, refusal: Refusal, line: u32) {
+pub fn tell_refusal(rt: &HostRuntime, asked: &Wishes, model: &Model, refusal: Refusal, line: u32) {
     if let Ok(words) = str::from_utf8(refusal.words()) {
         let _ = eprintln!(rt; "refused M{} ({words})", refusal.number());
     }

@@ -13,7 +13,7 @@ use view_trail::difference::Difference;
 use view_trail::marks::Marks;
 use view_trail::said::{Cycle, Said, add_said, said_in};
 use view_walk::walk::Walk;
-use view_words::Asked;
+use view_words::Wishes;
 
 // For which difference of Spin no choice fits a line of a trail.
 fn difference_words(alloc: Global, difference: Difference) -> Result<String, AllocError> {
@@ -134,7 +134,7 @@ fn along_of(said: &Said<'_>, came: &Came, cycle: Option<Cycle>) -> Along {
 // Follows a trail. Where that leads, and what a session says first: what Spin said of the trail.
 pub fn follow(
     rt: &HostRuntime,
-    asked: &Asked,
+    asked: &Wishes,
     name: &str,
     text: &[u8],
     marks: &Marks,

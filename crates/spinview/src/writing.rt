@@ -1,9 +1,9 @@
 // The files that a run writes: the record of a walk, and its page. Each is opened once, and is what was opened.
 ghost use Rattle.std.specs.Prelude.{◌≤◌, length};
 
-use crate::stop::{Device, NoView, failed};
+use crate::stop::{NoView, RunDevice, failed};
 use program_files::fault::{NoFile, not_opened, not_written};
-use program_files::held::{Held, Role};
+use program_files::held::{FileRole, Held};
 use program_files::identity::identity_of;
 use std::alloc::AllocError;
 use std::fs::{File, OpenFile, OpenOptions};
@@ -15,7 +15,7 @@ use view_text::writer::Writer;
 use view_walk::leg::Leg;
 
 // Opens a file for writing, which keeps what it holds, unless it is another one of the run; and notes what it is.
-fn opened(rt: &HostRuntime, name: &str, held: &mut Held, role: Role) -> Result<File, NoFile> {
+fn opened(rt: &HostRuntime, name: &str, held: &mut Held, role: FileRole) -> Result<File, NoFile> {
     let opened = OpenOptions::new().write(true).create(true).open(rt, name);
     let file = match opened {
         Ok(file) => file,
@@ -70,7 +70,7 @@ fn record_of(rt: &HostRuntime, legs: &[Leg]) -> Result<Vec<u8>, AllocError> {
 impl Record {
     // Opens it. What it holds stays until there is a choice.
     pub fn open(rt: &HostRuntime, name: &str, held: &mut Held) -> Result<Record, NoFile> {
-        let file = opened(rt, name, held, Role::Record)?;
+        let file = opened(rt, name, held, FileRole::Record)?;
         Ok(Record {
             is_regular: identity_of(&file).is_some(),
             file,
@@ -103,7 +103,7 @@ impl Record {
                 self.kept = record;
                 Ok(())
             }
-            Err(error) => Err(failed(Device::Record, error)),
+            Err(error) => Err(failed(RunDevice::Record, error)),
         }
     }
 
@@ -122,7 +122,7 @@ impl Record {
         };
         match put {
             Ok(()) => Ok(()),
-            Err(error) => Err(failed(Device::Record, error)),
+            Err(error) => Err(failed(RunDevice::Record, error)),
         }
     }
 }
@@ -153,7 +153,7 @@ fn beside(rt: &HostRuntime, real: &str) -> Result<Option<(File, String)>, AllocE
 impl PageFile {
     // Opens it. What it holds stays.
     pub fn open(rt: &HostRuntime, name: &str, held: &mut Held) -> Result<PageFile, NoFile> {
-        let file = opened(rt, name, held, Role::Page)?;
+        let file = opened(rt, name, held, FileRole::Page)?;
         let real = match identity_of(&file) {
             Some(_) => match fs::canonicalize(rt, name) {
                 Ok(path) => Some(String::from_str(rt.alloc(), path.as_str())?),

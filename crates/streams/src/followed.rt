@@ -12,7 +12,7 @@ pub const MOST_KEPT: usize = 80;
 
 /// A reader, the number of the last line of which a byte was read, and its bytes without its line feed. Contracts see the reader.
 #[derive(Drop)]
-pub struct Followed<R> {
+pub struct FollowedReader<R> {
     reader: R,
     number: u64,
     text: Vec<u8>,
@@ -20,18 +20,18 @@ pub struct Followed<R> {
     has_ended: bool,
 }
 
-impl<R> Model for Followed<R> {
+impl<R> Model for FollowedReader<R> {
     ghost Value = { R };
 
     ghost view = { λ f. f.reader };
 }
 
-impl<R> Followed<R> {
+impl<R> FollowedReader<R> {
     /// A reader of which nothing was read yet.
-    pub fn new(alloc: Global, reader: R) -> Followed<R>
+    pub fn new(alloc: Global, reader: R) -> FollowedReader<R>
         ensures { result ≡ reader }
     {
-        Followed {
+        FollowedReader {
             reader,
             number: 0,
             text: Vec::new(alloc),
@@ -81,7 +81,7 @@ impl<R> Followed<R> {
     }
 }
 
-impl<R: Read> Read for Followed<R> {
+impl<R: Read> Read for FollowedReader<R> {
     ghost remaining = { λ f. R.remaining f };
 
     #[inline(always)]

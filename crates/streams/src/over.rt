@@ -25,7 +25,7 @@ pub struct Streams<R, O, K> {
 
 /// How a session ended, and what it was played over.
 #[derive(Drop)]
-pub struct Played<R, O, K> {
+pub struct PlayedSession<R, O, K> {
     pub end: End,
     pub streams: Streams<R, O, K>,
 }
@@ -82,7 +82,7 @@ fn play_counting<R: Read, O: Write, K: Write, S: Ledger, T: Ledger, U: Ledger>(
     options: &Options,
     streams: Streams<R, O, K>,
     books: Books,
-) -> Played<R, O, K>
+) -> PlayedSession<R, O, K>
     requires source { IsBlank S.name S.parts books.source.name books.source.parts }
     requires out { IsBlank T.name T.parts books.out.name books.out.parts }
     requires rec { IsBlank U.name U.parts books.rec.name books.rec.parts }
@@ -99,7 +99,7 @@ fn play_counting<R: Read, O: Write, K: Write, S: Ledger, T: Ledger, U: Ledger>(
         out: out.into_writer(),
         rec: recorded::<K, U>(rec),
     };
-    Played { end, streams }
+    PlayedSession { end, streams }
 }
 
 /// Plays the text of a model. What is known of the streams after it is what the session over the text asks for: where the status is
@@ -109,7 +109,7 @@ pub fn play_over<R: Read, O: Write, K: Write>(
     text: &[u8],
     options: &Options,
     streams: Streams<R, O, K>,
-) -> Played<R, O, K>
+) -> PlayedSession<R, O, K>
     ensures { let k = known R.remaining O.contents K.contents in PlaysOver text.now options.now (k streams) (k result.streams) result.end }
 {
     play_counting::<R, O, K, Brand, Brand, Brand>(alloc, text, options, streams, Books::new())
@@ -122,7 +122,7 @@ fn convert_counting<R: Read, O: Write, K: Write, S: Ledger, T: Ledger>(
     options: &Options,
     streams: Streams<R, O, K>,
     books: Books,
-) -> Played<R, O, K>
+) -> PlayedSession<R, O, K>
     requires source { IsBlank S.name S.parts books.source.name books.source.parts }
     requires out { IsBlank T.name T.parts books.out.name books.out.parts }
     ensures { let k = known R.remaining O.contents K.contents in ConvertsOver text.now options.now (k streams) (k result.streams) result.end }
@@ -138,7 +138,7 @@ fn convert_counting<R: Read, O: Write, K: Write, S: Ledger, T: Ledger>(
         out: out.into_writer(),
         rec,
     };
-    Played { end, streams }
+    PlayedSession { end, streams }
 }
 
 /// Converts the choices of a session over the text of a model. Of the streams the reader gives them, and the writer of the output
@@ -148,7 +148,7 @@ pub fn convert_over<R: Read, O: Write, K: Write>(
     text: &[u8],
     options: &Options,
     streams: Streams<R, O, K>,
-) -> Played<R, O, K>
+) -> PlayedSession<R, O, K>
     ensures { let k = known R.remaining O.contents K.contents in ConvertsOver text.now options.now (k streams) (k result.streams) result.end }
 {
     convert_counting::<R, O, K, Brand, Brand>(alloc, text, options, streams, Books::new())
@@ -161,7 +161,7 @@ pub fn session_over<R: Read, O: Write, K: Write>(
     options: &Options,
     converts: bool,
     streams: Streams<R, O, K>,
-) -> Played<R, O, K>
+) -> PlayedSession<R, O, K>
     ensures { let k = known R.remaining O.contents K.contents in EndsOver converts text.now options.now (k streams) (k result.streams) result.end }
 {
     if converts {

@@ -2,8 +2,8 @@
 use Rattle.std.specs.Prelude.{ℕ, ◌+◌, ◌-◌, ◌==◌, ◌&&◌, ◌||◌, not, List, [], ◌∷◌, ◌++◌, Bool, true, false, Option, Some, None, nat_lt, min, if◌then◌else◌, codes}
 use Rattle.diagnostics.specs.declared.fault.Fault.TheVariants as fault
 use Rattle.promela_session.specs.Session.{Rules, Outcome, Stopped, Goes, Faults}
-use Rattle.test_code.specs.declared.sample.Rounds.{Rounds}
-use Rattle.test_code.specs.declared.sample.Pair.{Pair}
+use Rattle.test_code.specs.declared.sample.SettingRounds.{SettingRounds}
+use Rattle.test_code.specs.declared.sample.ProcessPair.{ProcessPair}
 use Rattle.test_code.specs.declared.sample.Sample.{Sample}
 use Rattle.test_code.specs.declared.sample.Sample.TheVariants as sample
 
@@ -15,12 +15,12 @@ moves_of (sample.Stopped m why) = []
 moves_of (sample.Countdown n) = (if nat_lt 0 n then 1 ∷ [] else []) ++ (if nat_lt 1 n then 2 ∷ [] else [])
 
 -- what a move of a process in rounds leads to
-abbrev pub rounds_next : Rounds → ℕ → Rounds
+abbrev pub rounds_next : SettingRounds → ℕ → SettingRounds
 rounds_next r m = if m == 3 then record { endless = r.endless; left = r.left; x = r.x; changed = false; dead = true }
     else record { endless = r.endless; left = r.left - 1; x = m; changed = not (r.x == m); dead = r.dead }
 
 -- what a move of one of two processes leads to
-abbrev pub pair_next : Pair → ℕ → Pair
+abbrev pub pair_next : ProcessPair → ℕ → ProcessPair
 pair_next p m = if m == 1 then record { a = min (p.a + 1) 255; b = p.b } else record { a = p.a; b = min (p.b + 1) 255 }
 
 -- what a move leads to

@@ -1,7 +1,7 @@
 //! Each call of each device fails, once: a beginning of what stands behind a session stands behind it then.
 use crate::compare::same;
-use crate::player::{Behind, played};
-use crate::row::{Failing, Row};
+use crate::player::{SampleOutcome, played};
+use crate::row::{CodeRow, FailingCall};
 use crate::sessions::{compares, plays};
 use crate::wholes::WHOLES;
 use session::Cause;
@@ -18,11 +18,11 @@ enum Device {
 
 impl Device {
     // This call of it fails.
-    fn failing(self, at: u64) -> Failing {
+    fn failing(self, at: u64) -> FailingCall {
         match self {
-            Device::Source => Failing::Source(at),
-            Device::Out => Failing::Out(at),
-            Device::Record => Failing::Record(at),
+            Device::Source => FailingCall::Source(at),
+            Device::Out => FailingCall::Out(at),
+            Device::Record => FailingCall::Record(at),
         }
     }
 
@@ -37,7 +37,7 @@ impl Device {
 }
 
 // A beginning stands behind it, and the device that has failed is told.
-fn begins<R: Abort>(rt: &R, row: &Row, out: &[u8], device: Device, behind: &Behind) {
+fn begins<R: Abort>(rt: &R, row: &CodeRow, out: &[u8], device: Device, behind: &SampleOutcome) {
     let is_beginning = out.starts_with(&behind.out);
     same(rt, row.name, "begins the output", is_beginning, true);
     let is_beginning = row.rec.starts_with(&behind.rec);
@@ -53,7 +53,14 @@ fn begins<R: Abort>(rt: &R, row: &Row, out: &[u8], device: Device, behind: &Behi
 }
 
 // Whether this call failed.
-fn failed<R: Abort>(rt: &R, alloc: Global, row: &Row, out: &[u8], device: Device, at: u64) -> bool {
+fn failed<R: Abort>(
+    rt: &R,
+    alloc: Global,
+    row: &CodeRow,
+    out: &[u8],
+    device: Device,
+    at: u64,
+) -> bool {
     let behind = played(rt, alloc, &row.but(device.failing(at)));
     begins(rt, row, out, device, &behind);
     if !behind.failed {
@@ -63,7 +70,7 @@ fn failed<R: Abort>(rt: &R, alloc: Global, row: &Row, out: &[u8], device: Device
 }
 
 // Each call of the device fails, until a run has no failure.
-fn swept<R: Abort>(rt: &R, alloc: Global, row: &Row, device: Device) {
+fn swept<R: Abort>(rt: &R, alloc: Global, row: &CodeRow, device: Device) {
     let out = row.output(rt, alloc);
     for at in 0..600u64 {
         if !failed(rt, alloc, row, out.as_slice(), device, at) {
@@ -76,7 +83,7 @@ fn swept<R: Abort>(rt: &R, alloc: Global, row: &Row, device: Device) {
 // A conversion has no record, so none of its calls fails.
 static DEVICES: [Device; 3] = [Device::Source, Device::Out, Device::Record];
 
-fn swept_whole<R: Abort>(rt: &R, alloc: Global, row: &Row) {
+fn swept_whole<R: Abort>(rt: &R, alloc: Global, row: &CodeRow) {
     for device in &DEVICES {
         swept(rt, alloc, row, *device);
     }

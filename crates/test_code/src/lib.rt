@@ -48,4 +48,4 @@ mod wholes;
 #[cfg(test)]
 mod words;
 
-pub use sample::{Pair, Rounds, Sample};
+pub use sample::{ProcessPair, Sample, SettingRounds};

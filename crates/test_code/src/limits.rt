@@ -10,7 +10,7 @@ use run_layout::cells::size;
 /// How many cells there are, and how many numbers the messages of one channel may have at most that an initialiser makes: as far as a
 /// `u32` counts them, like the numbers below.
 #[derive(Clone, Copy)]
-pub struct Sizes {
+pub struct CellCounts {
     /// The cells.
     pub cells: u32,
     /// The numbers in messages.
@@ -31,7 +31,7 @@ fn room_by(initial: &Initial) -> Option<u32>
 }
 
 /// The sizes of variables.
-pub fn sizes_of(slots: &[Slot<'_>]) -> Option<Sizes>
+pub fn sizes_of(slots: &[Slot<'_>]) -> Option<CellCounts>
     ensures cells { IfSome result (λ s. s.cells ≡ cells_of slots.now) }
     ensures room { IfSome result (λ s. s.room ≡ room_of slots.now) }
 {
@@ -42,7 +42,7 @@ pub fn sizes_of(slots: &[Slot<'_>]) -> Option<Sizes>
         cells = cells.checked_add(more)?;
         room = room.max(room_by(&slot.initial)?);
     }
-    Some(Sizes { cells, room })
+    Some(CellCounts { cells, room })
 }
 
 /// The room of the fields of typedefs.
@@ -57,7 +57,7 @@ fn room_of_fields(typedefs: &[Fields<'_>]) -> Option<u32>
 }
 
 /// The most that the parameters and variables of one proctype have.
-fn largest(proctypes: &[Proctype<'_>]) -> Option<Sizes>
+fn largest(proctypes: &[Proctype<'_>]) -> Option<CellCounts>
     ensures cells { IfSome result (λ s. s.cells ≡ largest proctypes.now) }
     ensures room { IfSome result (λ s. s.room ≡ room_of_processes proctypes.now) }
 {
@@ -68,7 +68,7 @@ fn largest(proctypes: &[Proctype<'_>]) -> Option<Sizes>
         cells = cells.max(sizes.cells);
         room = room.max(sizes.room);
     }
-    Some(Sizes { cells, room })
+    Some(CellCounts { cells, room })
 }
 
 /// Something, where a model is within its limits.

@@ -2,24 +2,24 @@
 ghost use Rattle.std.specs.Prelude.{◌≡◌, Err};
 ghost use Rattle.test_code.specs.Samples.{sample_rules, moves_of, rounds_next, pair_next, text_of, values_of};
 
-use crate::sample::{Pair, Rounds, Sample};
+use crate::sample::{ProcessPair, Sample, SettingRounds};
 use diagnostics::Fault;
 use session::{Machine, Report, Stop};
 use std::alloc::AllocError;
 
-impl Rounds {
+impl SettingRounds {
     // What a move leads to.
-    fn next(self, m: u8) -> Rounds
+    fn next(self, m: u8) -> SettingRounds
         ensures { result ≡ rounds_next self m }
     {
         if m == 3 {
-            Rounds {
+            SettingRounds {
                 dead: true,
                 changed: false,
                 ..self
             }
         } else {
-            Rounds {
+            SettingRounds {
                 left: self.left.saturating_sub(1),
                 x: m,
                 changed: self.x != m,
@@ -29,18 +29,18 @@ impl Rounds {
     }
 }
 
-impl Pair {
+impl ProcessPair {
     // What a move leads to.
-    fn next(self, m: u8) -> Pair
+    fn next(self, m: u8) -> ProcessPair
         ensures { result ≡ pair_next self m }
     {
         if m == 1 {
-            Pair {
+            ProcessPair {
                 a: self.a.saturating_add(1),
                 ..self
             }
         } else {
-            Pair {
+            ProcessPair {
                 b: self.b.saturating_add(1),
                 ..self
             }

@@ -1,7 +1,7 @@
 //! Plays a sample over devices of which one call may fail, all sinks taking one byte a call.
 ghost use Rattle.std.specs.Prelude.{◌≡◌};
 
-use crate::row::{Failing, Row, Way};
+use crate::row::{CodeRow, FailingCall, RowWay};
 use devices::{
     FailsOnce, Failures, Next, OneByte, Sink, SliceSource, Source, ThreeDevices, VecSink,
 };
@@ -14,24 +14,24 @@ use std::sync::ledger::{Blank, Ledger};
 // No call fails.
 const NEVER: u64 = u64::MAX;
 
-impl Failing {
+impl FailingCall {
     fn of_source(self) -> u64 {
         match self {
-            Failing::Source(at) => at,
+            FailingCall::Source(at) => at,
             _ => NEVER,
         }
     }
 
     fn of_out(self) -> u64 {
         match self {
-            Failing::Out(at) => at,
+            FailingCall::Out(at) => at,
             _ => NEVER,
         }
     }
 
     fn of_record(self) -> u64 {
         match self {
-            Failing::Record(at) => at,
+            FailingCall::Record(at) => at,
             _ => NEVER,
         }
     }
@@ -39,7 +39,7 @@ impl Failing {
 
 /// What stands behind a session.
 #[derive(Drop)]
-pub struct Behind {
+pub struct SampleOutcome {
     pub out: Vec<u8>,
     pub rec: Vec<u8>,
     pub read: usize,
@@ -78,7 +78,7 @@ type Choices<'a> = Counting<FailsOnce<SliceSource<'a>>>;
 
 type Taking<L> = FailsOnce<OneByte<VecSink<L>>>;
 
-fn choices(row: &Row) -> Choices<'static> {
+fn choices(row: &CodeRow) -> Choices<'static> {
     Counting {
         source: FailsOnce::new(SliceSource::new(row.choices), row.failing.of_source()),
         calls: 0,
@@ -99,18 +99,18 @@ fn taking<L: Ledger>(alloc: Global, blank: Blank, failing: u64) -> Taking<L>
 // Plays a row over these devices, or converts its choices: then nothing is recorded.
 fn ended<S: Source, O: Sink, P: Sink>(
     alloc: Global,
-    row: &Row,
+    row: &CodeRow,
     source: &mut S,
     out: &mut O,
     rec: &mut P,
 ) -> End {
     let mut machine = row.sample;
     match row.way {
-        Way::Session => {
+        RowWay::Session => {
             let mut devices = ThreeDevices { source, out, rec };
             play(alloc, &mut machine, &row.options, &mut devices)
         }
-        Way::Conversion => {
+        RowWay::Conversion => {
             let mut devices = Conversion { source, out };
             convert(alloc, &mut machine, &row.options, &mut devices)
         }
@@ -118,21 +118,21 @@ fn ended<S: Source, O: Sink, P: Sink>(
 }
 
 // What a device holds.
-fn held<L: Ledger, R: Abort>(rt: &R, alloc: Global, row: &Row, device: &Taking<L>) -> Vec<u8> {
+fn held<L: Ledger, R: Abort>(rt: &R, alloc: Global, row: &CodeRow, device: &Taking<L>) -> Vec<u8> {
     Vec::from_slice(alloc, device.device().sink.bytes()).expect(rt, row.name)
 }
 
 // What these devices leave behind once a session has ended so, where they hold these bytes.
 fn left_behind<K: Ledger, L: Ledger>(
-    row: &Row,
+    row: &CodeRow,
     source: &Choices<'_>,
     out: &Taking<K>,
     rec: &Taking<L>,
     bytes: (Vec<u8>, Vec<u8>),
     end: End,
-) -> Behind {
+) -> SampleOutcome {
     let left = source.source.device().left().len();
-    Behind {
+    SampleOutcome {
         out: bytes.0,
         rec: bytes.1,
         read: row.choices.len().saturating_sub(left),
@@ -148,8 +148,8 @@ fn played_with<K: Ledger, L: Ledger, R: Abort>(
     alloc: Global,
     first: Blank,
     second: Blank,
-    row: &Row,
-) -> Behind
+    row: &CodeRow,
+) -> SampleOutcome
     requires first_name { first.name ≡ K.name }
     requires first_parts { first.parts ≡ K.parts }
     requires first_one { first.parts ≡ 1 }
@@ -166,6 +166,6 @@ fn played_with<K: Ledger, L: Ledger, R: Abort>(
 }
 
 /// Plays a row, or converts its choices.
-pub fn played<R: Abort>(rt: &R, alloc: Global, row: &Row) -> Behind {
+pub fn played<R: Abort>(rt: &R, alloc: Global, row: &CodeRow) -> SampleOutcome {
     played_with::<Brand, Brand, R>(rt, alloc, Blank::new(1), Blank::new(1), row)
 }

@@ -1,12 +1,12 @@
 //! A session of a sample: what it is played on, and what stands behind it.
-use crate::sample::{Pair, Rounds, Sample};
+use crate::sample::{ProcessPair, Sample, SettingRounds};
 use session::{Cause, End, Options};
 use std::alloc::Global;
 use std::process::Abort;
 
 /// What is done with a row.
 #[derive(Clone, Copy)]
-pub enum Way {
+pub enum RowWay {
     /// It is played.
     Session,
     /// Its choices are converted: the output has those of the second version, and there is no record.
@@ -15,7 +15,7 @@ pub enum Way {
 
 /// Which device fails, and at which of its calls, counted from 0.
 #[derive(Clone, Copy)]
-pub enum Failing {
+pub enum FailingCall {
     /// No call fails.
     Never,
     /// A call of the source.
@@ -28,11 +28,11 @@ pub enum Failing {
 
 /// A session.
 #[derive(Clone, Copy)]
-pub struct Row {
+pub struct CodeRow {
     /// What it is called where it differs.
     pub name: &'static str,
     /// What is done.
-    pub way: Way,
+    pub way: RowWay,
     /// What is played.
     pub sample: Sample,
     /// How it is played.
@@ -40,7 +40,7 @@ pub struct Row {
     /// What the source has.
     pub choices: &'static [u8],
     /// Which call fails.
-    pub failing: Failing,
+    pub failing: FailingCall,
     /// How the output begins.
     pub out: &'static [u8],
     /// So many bad lines are answered behind that.
@@ -77,14 +77,14 @@ pub struct Choices {
 }
 
 /// A row on more than one text of choices.
-pub struct Table {
+pub struct RowTable {
     /// What is the same.
-    pub row: Row,
+    pub row: CodeRow,
     /// What is not.
     pub choices: &'static [Choices],
 }
 
-impl Row {
+impl CodeRow {
     /// How it ends.
     pub fn end(&self) -> End {
         End {
@@ -95,8 +95,8 @@ impl Row {
     }
 
     /// The same with these choices.
-    pub fn with(&self, choices: &Choices) -> Row {
-        Row {
+    pub fn with(&self, choices: &Choices) -> CodeRow {
+        CodeRow {
             name: choices.name,
             choices: choices.choices,
             answers: choices.answers,
@@ -107,8 +107,8 @@ impl Row {
     }
 
     /// The same where a call fails.
-    pub fn but(&self, failing: Failing) -> Row {
-        Row { failing, ..*self }
+    pub fn but(&self, failing: FailingCall) -> CodeRow {
+        CodeRow { failing, ..*self }
     }
 
     /// The whole output.
@@ -142,7 +142,7 @@ pub const GLOBALS: Options = Options {
 };
 
 /// A process that sets `x` to 1 or 2 without end.
-pub const ENDLESS: Sample = Sample::Rounds(Rounds {
+pub const ENDLESS: Sample = Sample::Rounds(SettingRounds {
     endless: true,
     left: 0,
     x: 0,
@@ -151,7 +151,7 @@ pub const ENDLESS: Sample = Sample::Rounds(Rounds {
 });
 
 /// The same once.
-pub const ONCE: Sample = Sample::Rounds(Rounds {
+pub const ONCE: Sample = Sample::Rounds(SettingRounds {
     endless: false,
     left: 1,
     x: 0,
@@ -160,4 +160,4 @@ pub const ONCE: Sample = Sample::Rounds(Rounds {
 });
 
 /// Two processes of one assignment each.
-pub const TWO: Sample = Sample::Pair(Pair { a: 0, b: 0 });
+pub const TWO: Sample = Sample::Pair(ProcessPair { a: 0, b: 0 });

@@ -2,7 +2,7 @@
 
 /// One process that sets `x` to 1 or 2, for some rounds or without end, and then dies.
 #[derive(Clone, Copy)]
-pub struct Rounds {
+pub struct SettingRounds {
     /// Whether it goes on without end.
     pub endless: bool,
     /// The rounds that are left, where it does not.
@@ -17,7 +17,7 @@ pub struct Rounds {
 
 /// Two processes of one assignment each. Each is at 0 before it, at 1 behind it, and at 2 where it is dead.
 #[derive(Clone, Copy)]
-pub struct Pair {
+pub struct ProcessPair {
     /// Where the first process is.
     pub a: u8,
     /// Where the second one is.
@@ -29,9 +29,9 @@ pub struct Pair {
 #[derive(Clone, Copy)]
 pub enum Sample {
     /// A process that sets a variable.
-    Rounds(Rounds),
+    Rounds(SettingRounds),
     /// Two processes.
-    Pair(Pair),
+    Pair(ProcessPair),
     /// A countdown, from this number.
     Countdown(u32),
     /// A countdown that has stopped at a move.

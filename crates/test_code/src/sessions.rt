@@ -1,14 +1,14 @@
 //! Sessions of the first version: bad lines, lines too long, choices that end early, devices that fail.
 use crate::compare::same;
-use crate::player::{Behind, played};
-use crate::row::{Choices, ENDLESS, Failing, GLOBALS, Row, Table, Way};
+use crate::player::{SampleOutcome, played};
+use crate::row::{Choices, CodeRow, ENDLESS, FailingCall, GLOBALS, RowTable, RowWay};
 use crate::wholes::{AGAIN, BAD_LINES, QUIT, TWO_PROCESSES};
 use session::{Cause, Options};
 use std::alloc::Global;
 use std::process::Abort;
 
 /// What stands behind a row is what it wants.
-pub fn compares<R: Abort>(rt: &R, row: &Row, out: &[u8], behind: &Behind) {
+pub fn compares<R: Abort>(rt: &R, row: &CodeRow, out: &[u8], behind: &SampleOutcome) {
     let name = row.name;
     same(rt, name, "the output", behind.out.as_slice(), out);
     same(rt, name, "the record", behind.rec.as_slice(), row.rec);
@@ -25,7 +25,7 @@ pub fn compares<R: Abort>(rt: &R, row: &Row, out: &[u8], behind: &Behind) {
 }
 
 /// Plays a row.
-pub fn plays<R: Abort>(rt: &R, alloc: Global, row: &Row) {
+pub fn plays<R: Abort>(rt: &R, alloc: Global, row: &CodeRow) {
     let out = row.output(rt, alloc);
     let behind = played(rt, alloc, row);
     compares(rt, row, out.as_slice(), &behind);
@@ -40,13 +40,13 @@ pub const LISTED_AGAIN: &[u8] =
     b"choice 1: proc 0 (A) line 2 [x = 1]\nchoice 2: proc 1 (B) line 3 [y = 2]\nchoose 1..2\nstep 1: proc 1 (B) line 3 [y = 2]\nchoice 1: proc 0 (A) line 2 [x = 1]\nchoice 2: proc 1 (B) line 3 [-end-]\nchoose 1..2\n";
 
 // The endless process is asked, and the choices end.
-const ASKED: Row = Row {
+const ASKED: CodeRow = CodeRow {
     name: "asked",
-    way: Way::Session,
+    way: RowWay::Session,
     sample: ENDLESS,
     options: GLOBALS,
     choices: b"",
-    failing: Failing::Never,
+    failing: FailingCall::Never,
     out: b"choice 1: proc 0 (:init:) line 1 [x = 1]\nchoice 2: proc 0 (:init:) line 1 [x = 2]\nchoose 1..2\n",
     answers: 0,
     last: b"stop: choices ended, steps 0\n",
@@ -59,7 +59,7 @@ const ASKED: Row = Row {
 };
 
 // The source fails at the first question.
-const FIRST_FAILS: Row = Row {
+const FIRST_FAILS: CodeRow = CodeRow {
     last: b"",
     status: 6,
     cause: Cause::SourceFailed,
@@ -67,7 +67,7 @@ const FIRST_FAILS: Row = Row {
 };
 
 // The source fails at the second question.
-const SECOND_FAILS: Row = Row {
+const SECOND_FAILS: CodeRow = CodeRow {
     out: LISTED_AGAIN,
     rec: b"2\n",
     status: 6,
@@ -77,7 +77,7 @@ const SECOND_FAILS: Row = Row {
 };
 
 // The choices of the row with bad lines, cut.
-const CUT: Row = Row {
+const CUT: CodeRow = CodeRow {
     name: "cut choices",
     last: b"stop: choices ended, steps 0\n",
     rec: b"",
@@ -88,45 +88,45 @@ const CUT: Row = Row {
 };
 
 // The choices of the row that quits, without the `q`.
-const QUIT_AGAIN: Row = Row {
+const QUIT_AGAIN: CodeRow = CodeRow {
     last: b"stop: choices ended, steps 1\n",
     status: 5,
     cause: Cause::ChoicesEnded,
     ..QUIT
 };
 
-static ROWS: [Row; 11] = [
-    Row {
+static ROWS: [CodeRow; 11] = [
+    CodeRow {
         name: "the source fails at its first call",
         choices: b"1",
-        failing: Failing::Source(0),
+        failing: FailingCall::Source(0),
         ..FIRST_FAILS
     },
-    Row {
+    CodeRow {
         name: "the source fails at its second call",
         choices: b"1",
-        failing: Failing::Source(1),
+        failing: FailingCall::Source(1),
         read: 1,
         calls: 2,
         ..FIRST_FAILS
     },
-    Row {
+    CodeRow {
         name: "the source fails at its third call",
-        failing: Failing::Source(2),
+        failing: FailingCall::Source(2),
         read: 2,
         calls: 3,
         ..SECOND_FAILS
     },
-    Row {
+    CodeRow {
         name: "the source fails at its fourth call",
-        failing: Failing::Source(3),
+        failing: FailingCall::Source(3),
         read: 3,
         calls: 4,
         ..SECOND_FAILS
     },
-    Row {
+    CodeRow {
         name: "the record fails at once",
-        failing: Failing::Record(0),
+        failing: FailingCall::Record(0),
         out: LISTED,
         rec: b"",
         read: 2,
@@ -136,23 +136,23 @@ static ROWS: [Row; 11] = [
         cause: Cause::RecordFailed,
         ..TWO_PROCESSES
     },
-    Row {
+    CodeRow {
         name: "a run that quits, from the record",
         choices: b"1\n",
         read: 2,
         calls: 3,
         ..QUIT_AGAIN
     },
-    Row {
+    CodeRow {
         name: "a run that quits, in the second version",
         choices: b"choices 2\n1 0 1\n",
         read: 16,
         calls: 17,
         ..QUIT_AGAIN
     },
-    Row {
+    CodeRow {
         name: "a run that quits, converted twice",
-        way: Way::Conversion,
+        way: RowWay::Conversion,
         choices: b"choices 2\n1 0 1\n",
         out: b"choices 2\n1 0 1\n",
         last: b"",
@@ -161,7 +161,7 @@ static ROWS: [Row; 11] = [
         calls: 17,
         ..QUIT_AGAIN
     },
-    Row {
+    CodeRow {
         name: "a hundred line feeds",
         choices: &[b'\n'; 300],
         answers: 99,
@@ -171,7 +171,7 @@ static ROWS: [Row; 11] = [
         cause: Cause::BadChoices,
         ..ASKED
     },
-    Row {
+    CodeRow {
         name: "eighty-one bytes",
         choices: &[b'1'; 200],
         last: b"stop: line too long, steps 0\n",
@@ -180,7 +180,7 @@ static ROWS: [Row; 11] = [
         cause: Cause::LineTooLong,
         ..ASKED
     },
-    Row {
+    CodeRow {
         name: "a limit of no step",
         choices: b"1\n",
         options: Options {
@@ -195,8 +195,8 @@ static ROWS: [Row; 11] = [
     },
 ];
 
-static TABLES: [Table; 2] = [
-    Table {
+static TABLES: [RowTable; 2] = [
+    RowTable {
         row: CUT,
         choices: &[
             Choices {
@@ -257,7 +257,7 @@ static TABLES: [Table; 2] = [
             },
         ],
     },
-    Table {
+    RowTable {
         row: ASKED,
         choices: &[
             Choices {
@@ -356,7 +356,7 @@ static TABLES: [Table; 2] = [
 ];
 
 /// Plays a row on the choices of a table.
-pub fn plays_all<R: Abort>(rt: &R, alloc: Global, table: &Table) {
+pub fn plays_all<R: Abort>(rt: &R, alloc: Global, table: &RowTable) {
     for choices in table.choices {
         plays(rt, alloc, &table.row.with(choices));
     }

@@ -1,11 +1,11 @@
 //! Choices of the second version.
-use crate::row::{Choices, Row, Table};
+use crate::row::{Choices, CodeRow, RowTable};
 use crate::sessions::{LISTED, LISTED_AGAIN, plays, plays_all};
 use crate::wholes::TWO_PROCESSES;
 use session::Cause;
 
 // The choices end at the first question.
-const ENDS: Row = Row {
+const ENDS: CodeRow = CodeRow {
     out: LISTED,
     last: b"stop: choices ended, steps 0\n",
     rec: b"",
@@ -16,14 +16,14 @@ const ENDS: Row = Row {
 };
 
 // The first choice is of other moves.
-const MISFIT: Row = Row {
+const MISFIT: CodeRow = CodeRow {
     last: b"stop: choice misfit, steps 0\n",
     cause: Cause::Misfit,
     ..ENDS
 };
 
-static ROWS: [Row; 3] = [
-    Row {
+static ROWS: [CodeRow; 3] = [
+    CodeRow {
         name: "a first line at the second question",
         choices: b"2\nchoices 2\n1 0 2\n",
         out: LISTED_AGAIN,
@@ -35,7 +35,7 @@ static ROWS: [Row; 3] = [
         steps: 1,
         ..ENDS
     },
-    Row {
+    CodeRow {
         name: "q in the second version",
         choices: b"choices 2\n q\n1\n",
         last: b"end: quit, steps 0\n",
@@ -45,7 +45,7 @@ static ROWS: [Row; 3] = [
         cause: Cause::Quit,
         ..ENDS
     },
-    Row {
+    CodeRow {
         name: "a line too long in the second version",
         choices: b"choices 2\n                                                                                          ",
         last: b"stop: line too long, steps 0\n",
@@ -56,8 +56,8 @@ static ROWS: [Row; 3] = [
     },
 ];
 
-static TABLES: [Table; 2] = [
-    Table {
+static TABLES: [RowTable; 2] = [
+    RowTable {
         row: MISFIT,
         choices: &[
             Choices {
@@ -153,7 +153,7 @@ static TABLES: [Table; 2] = [
             },
         ],
     },
-    Table {
+    RowTable {
         row: ENDS,
         choices: &[
             Choices {

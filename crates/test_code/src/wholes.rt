@@ -1,17 +1,17 @@
 //! Sessions that each device fails in, and the conversions of their choices.
-use crate::row::{ENDLESS, Failing, GLOBALS, ONCE, Row, STEPS, TWO, Way};
+use crate::row::{CodeRow, ENDLESS, FailingCall, GLOBALS, ONCE, RowWay, STEPS, TWO};
 use crate::sample::Sample;
 use diagnostics::Fault;
 use session::{Cause, Options};
 
 /// Two processes, each assigning once: the younger moves first.
-pub const TWO_PROCESSES: Row = Row {
+pub const TWO_PROCESSES: CodeRow = CodeRow {
     name: "two processes",
-    way: Way::Session,
+    way: RowWay::Session,
     sample: TWO,
     options: STEPS,
     choices: b"2\n1\n",
-    failing: Failing::Never,
+    failing: FailingCall::Never,
     out: b"choice 1: proc 0 (A) line 2 [x = 1]\nchoice 2: proc 1 (B) line 3 [y = 2]\nchoose 1..2\nstep 1: proc 1 (B) line 3 [y = 2]\nchoice 1: proc 0 (A) line 2 [x = 1]\nchoice 2: proc 1 (B) line 3 [-end-]\nchoose 1..2\nstep 2: proc 0 (A) line 2 [x = 1]\nstep 3: proc 1 (B) line 3 [-end-]\nstep 4: proc 0 (A) line 2 [-end-]\nend: valid, steps 4\n",
     answers: 0,
     last: b"",
@@ -24,13 +24,13 @@ pub const TWO_PROCESSES: Row = Row {
 };
 
 /// Four bad lines before a number.
-pub const BAD_LINES: Row = Row {
+pub const BAD_LINES: CodeRow = CodeRow {
     name: "bad lines",
-    way: Way::Session,
+    way: RowWay::Session,
     sample: ONCE,
     options: GLOBALS,
     choices: b"0\n3\nx\n\n2\n",
-    failing: Failing::Never,
+    failing: FailingCall::Never,
     out: b"choice 1: proc 0 (:init:) line 1 [x = 1]\nchoice 2: proc 0 (:init:) line 1 [x = 2]\nchoose 1..2\n",
     answers: 4,
     last: b"global x = 2\nend: valid, steps 2\n",
@@ -43,13 +43,13 @@ pub const BAD_LINES: Row = Row {
 };
 
 /// A last line without a line feed.
-pub const LAST_LINE: Row = Row {
+pub const LAST_LINE: CodeRow = CodeRow {
     name: "a last line",
-    way: Way::Session,
+    way: RowWay::Session,
     sample: ENDLESS,
     options: GLOBALS,
     choices: b"1",
-    failing: Failing::Never,
+    failing: FailingCall::Never,
     out: b"choice 1: proc 0 (:init:) line 1 [x = 1]\nchoice 2: proc 0 (:init:) line 1 [x = 2]\nchoose 1..2\nglobal x = 1\nchoice 1: proc 0 (:init:) line 1 [x = 1]\nchoice 2: proc 0 (:init:) line 1 [x = 2]\nchoose 1..2\nstop: choices ended, steps 1\n",
     answers: 0,
     last: b"",
@@ -62,13 +62,13 @@ pub const LAST_LINE: Row = Row {
 };
 
 /// A step that prints and then is a fault.
-pub const FAULT: Row = Row {
+pub const FAULT: CodeRow = CodeRow {
     name: "a fault",
-    way: Way::Session,
+    way: RowWay::Session,
     sample: Sample::Countdown(2),
     options: STEPS,
     choices: b"2",
-    failing: Failing::Never,
+    failing: FailingCall::Never,
     out: b"choice 1: 1\nchoice 2: 2\nchoose 1..2\nfault F2 (zero divisor): step 1: 2\n",
     answers: 0,
     last: b"",
@@ -81,13 +81,13 @@ pub const FAULT: Row = Row {
 };
 
 /// `q` at the second question, and printed stars.
-pub const QUIT: Row = Row {
+pub const QUIT: CodeRow = CodeRow {
     name: "a run that quits",
-    way: Way::Session,
+    way: RowWay::Session,
     sample: Sample::Countdown(9),
     options: STEPS,
     choices: b"1\n \tq\r\n1\n",
-    failing: Failing::Never,
+    failing: FailingCall::Never,
     out: b"choice 1: 1\nchoice 2: 2\nchoose 1..2\nstep 1: 1\n*choice 1: 1\nchoice 2: 2\nchoose 1..2\n",
     answers: 0,
     last: b"end: quit, steps 1\n",
@@ -100,13 +100,13 @@ pub const QUIT: Row = Row {
 };
 
 /// The limit, at a state with moves.
-pub const LIMIT: Row = Row {
+pub const LIMIT: CodeRow = CodeRow {
     name: "a run to the limit",
-    way: Way::Session,
+    way: RowWay::Session,
     sample: Sample::Countdown(9),
     options: Options { limit: 2, ..STEPS },
     choices: b"002\n 1\n1\n",
-    failing: Failing::Never,
+    failing: FailingCall::Never,
     out: b"choice 1: 1\nchoice 2: 2\nchoose 1..2\nstep 1: 2\n*choice 1: 1\nchoice 2: 2\nchoose 1..2\nstep 2: 1\n*stop: step limit, steps 2\n",
     answers: 0,
     last: b"",
@@ -119,13 +119,13 @@ pub const LIMIT: Row = Row {
 };
 
 /// No question is asked.
-pub const NO_QUESTION: Row = Row {
+pub const NO_QUESTION: CodeRow = CodeRow {
     name: "no question",
-    way: Way::Session,
+    way: RowWay::Session,
     sample: TWO,
     options: Options { limit: 0, ..STEPS },
     choices: b"1\n",
-    failing: Failing::Never,
+    failing: FailingCall::Never,
     out: b"stop: step limit, steps 0\n",
     answers: 0,
     last: b"",
@@ -138,7 +138,7 @@ pub const NO_QUESTION: Row = Row {
 };
 
 /// Each of them, and the conversion of its choices.
-pub static WHOLES: [Row; 14] = [
+pub static WHOLES: [CodeRow; 14] = [
     TWO_PROCESSES,
     BAD_LINES,
     LAST_LINE,
@@ -146,63 +146,63 @@ pub static WHOLES: [Row; 14] = [
     QUIT,
     LIMIT,
     NO_QUESTION,
-    Row {
+    CodeRow {
         name: "two processes, converted",
-        way: Way::Conversion,
+        way: RowWay::Conversion,
         out: b"choices 2\n2 1 3\n1 0 2\n",
         answers: 0,
         last: b"",
         rec: b"",
         ..TWO_PROCESSES
     },
-    Row {
+    CodeRow {
         name: "bad lines, converted",
-        way: Way::Conversion,
+        way: RowWay::Conversion,
         out: b"choices 2\n2 0 1\n",
         answers: 0,
         last: b"",
         rec: b"",
         ..BAD_LINES
     },
-    Row {
+    CodeRow {
         name: "a last line, converted",
-        way: Way::Conversion,
+        way: RowWay::Conversion,
         out: b"choices 2\n1 0 1\n",
         answers: 0,
         last: b"",
         rec: b"",
         ..LAST_LINE
     },
-    Row {
+    CodeRow {
         name: "a fault, converted",
-        way: Way::Conversion,
+        way: RowWay::Conversion,
         out: b"choices 2\n2 0 2\n",
         answers: 0,
         last: b"",
         rec: b"",
         ..FAULT
     },
-    Row {
+    CodeRow {
         name: "a run that quits, converted",
-        way: Way::Conversion,
+        way: RowWay::Conversion,
         out: b"choices 2\n1 0 1\n",
         answers: 0,
         last: b"",
         rec: b"",
         ..QUIT
     },
-    Row {
+    CodeRow {
         name: "a run to the limit, converted",
-        way: Way::Conversion,
+        way: RowWay::Conversion,
         out: b"choices 2\n2 0 2\n1 0 1\n",
         answers: 0,
         last: b"",
         rec: b"",
         ..LIMIT
     },
-    Row {
+    CodeRow {
         name: "no question, converted",
-        way: Way::Conversion,
+        way: RowWay::Conversion,
         out: b"choices 2\n",
         answers: 0,
         last: b"",
@@ -212,29 +212,29 @@ pub static WHOLES: [Row; 14] = [
 ];
 
 /// The same on their records, and on their choices in the second version; and a few that end so behind other choices.
-pub static AGAIN: [Row; 15] = [
-    Row {
+pub static AGAIN: [CodeRow; 15] = [
+    CodeRow {
         name: "two processes, from the record",
         choices: b"2\n1\n",
         read: 4,
         calls: 4,
         ..TWO_PROCESSES
     },
-    Row {
+    CodeRow {
         name: "the second version",
         choices: b"choices 2\n2 1 3\n1 0 2\n",
         read: 22,
         calls: 22,
         ..TWO_PROCESSES
     },
-    Row {
+    CodeRow {
         name: "blanks and zeros in the second version",
         choices: b" \tchoices 2\r\n\t002 \t 01\t0003 \r\n1 000 2",
         read: 37,
         calls: 38,
         ..TWO_PROCESSES
     },
-    Row {
+    CodeRow {
         name: "bad lines, from the record",
         choices: b"2\n",
         answers: 0,
@@ -242,7 +242,7 @@ pub static AGAIN: [Row; 15] = [
         calls: 2,
         ..BAD_LINES
     },
-    Row {
+    CodeRow {
         name: "bad lines, in the second version",
         choices: b"choices 2\n2 0 1\n",
         answers: 0,
@@ -250,7 +250,7 @@ pub static AGAIN: [Row; 15] = [
         calls: 16,
         ..BAD_LINES
     },
-    Row {
+    CodeRow {
         name: "no last line feed",
         choices: b"0\n3\nx\n\n2",
         answers: 4,
@@ -258,63 +258,63 @@ pub static AGAIN: [Row; 15] = [
         calls: 9,
         ..BAD_LINES
     },
-    Row {
+    CodeRow {
         name: "a last line, from the record",
         choices: b"1\n",
         read: 2,
         calls: 3,
         ..LAST_LINE
     },
-    Row {
+    CodeRow {
         name: "a last line, in the second version",
         choices: b"choices 2\n1 0 1\n",
         read: 16,
         calls: 17,
         ..LAST_LINE
     },
-    Row {
+    CodeRow {
         name: "eighty bytes and a line feed",
         choices: b"00000000000000000000000000000000000000000000000000000000000000000000000000000001\n",
         read: 81,
         calls: 82,
         ..LAST_LINE
     },
-    Row {
+    CodeRow {
         name: "a fault, from the record",
         choices: b"2\n",
         read: 2,
         calls: 2,
         ..FAULT
     },
-    Row {
+    CodeRow {
         name: "a fault, in the second version",
         choices: b"choices 2\n2 0 2\n",
         read: 16,
         calls: 16,
         ..FAULT
     },
-    Row {
+    CodeRow {
         name: "a run to the limit, from the record",
         choices: b"2\n1\n",
         read: 4,
         calls: 4,
         ..LIMIT
     },
-    Row {
+    CodeRow {
         name: "a run to the limit, in the second version",
         choices: b"choices 2\n2 0 2\n1 0 1\n",
         read: 22,
         calls: 22,
         ..LIMIT
     },
-    Row {
+    CodeRow {
         name: "no question, from the record",
         choices: b"",
         read: 0,
         calls: 0,
         ..NO_QUESTION
     },
-    Row {
+    CodeRow {
         name: "no question, in the second version",
         choices: b"choices 2\n",
         read: 0,

@@ -3,13 +3,13 @@
 //! the tokens behind them.
 use crate::bytes::bytes_of;
 use crate::layer::TOKENS_WISH;
-use crate::place::Place;
-use crate::tally::Tally;
-use row_files::{Pair, Writer};
+use crate::place::FileBlock;
+use crate::tally::LayerTally;
+use row_files::{Pair, RowWriter};
 use std::alloc::Global;
 
 /// Writes a token behind others.
-fn add(out: &mut Writer, token: &str) {
+fn add(out: &mut RowWriter, token: &str) {
     if !out.is("") && !token.is_empty() {
         out.word(" ");
     }
@@ -17,15 +17,15 @@ fn add(out: &mut Writer, token: &str) {
 }
 
 /// Writes the first tokens of a list.
-fn add_first(out: &mut Writer, list: &[Pair], count: usize) {
+fn add_first(out: &mut RowWriter, list: &[Pair], count: usize) {
     for token in list.iter().take(count) {
         add(out, token.this);
     }
 }
 
 /// The answer that a line wants: the first tokens of the list and its own.
-fn wanted_tokens(alloc: Global, list: &[Pair], wanted: &str) -> Writer {
-    let mut out = Writer::new(alloc);
+fn wanted_tokens(alloc: Global, list: &[Pair], wanted: &str) -> RowWriter {
+    let mut out = RowWriter::new(alloc);
     let (number, own) = wanted.split_once(" ").unwrap_or((wanted, ""));
     match number.parse::<usize>() {
         Ok(count) => {
@@ -42,11 +42,11 @@ fn wanted_tokens(alloc: Global, list: &[Pair], wanted: &str) -> Writer {
 
 fn compare_beginning(
     alloc: Global,
-    place: Place,
+    place: FileBlock,
     beginning: &[u8],
     list: &[Pair],
     line: Pair,
-    tally: &mut Tally,
+    tally: &mut LayerTally,
 ) {
     if line.this.parse::<usize>().ok() != Some(beginning.len()) {
         tally.refuse(place, "a length that does not follow");
@@ -59,11 +59,11 @@ fn compare_beginning(
 /// Compares the beginnings of this text, one in each line.
 fn compare_lines(
     alloc: Global,
-    place: Place,
+    place: FileBlock,
     text: &[u8],
     list: &[Pair],
     lines: &[Pair],
-    tally: &mut Tally,
+    tally: &mut LayerTally,
 ) {
     if lines.len() != text.len().saturating_add(1) {
         tally.refuse(place, "not a row for each beginning");
@@ -76,7 +76,7 @@ fn compare_lines(
 }
 
 /// Compares the beginnings of a block's text.
-pub fn compare_beginnings(alloc: Global, place: Place, tally: &mut Tally) {
+pub fn compare_beginnings(alloc: Global, place: FileBlock, tally: &mut LayerTally) {
     let list = place.lines(alloc, "list", tally);
     let lines = place.lines(alloc, "beginnings", tally);
     match bytes_of(alloc, place.block.part("text")) {

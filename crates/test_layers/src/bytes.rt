@@ -1,5 +1,5 @@
 //! The bytes that a row writes: a grave accent and two hexadecimal digits are one byte.
-use row_files::{Refused, Writer};
+use row_files::{Refused, RowWriter};
 use std::alloc::Global;
 
 fn digit_value(digit: u8) -> Option<u8> {
@@ -55,7 +55,7 @@ pub fn bytes_of(alloc: Global, written: &str) -> Result<Vec<u8>, Refused> {
 }
 
 /// Writes a number of times what stands behind that number.
-fn add_repeated(part: &str, out: &mut Writer) {
+fn add_repeated(part: &str, out: &mut RowWriter) {
     let (count, piece) = part.split_once(" ").unwrap_or((part, ""));
     match count.parse::<usize>() {
         Ok(count) => out.repeated(piece, count),
@@ -64,7 +64,7 @@ fn add_repeated(part: &str, out: &mut Writer) {
 }
 
 /// Writes the parts with `|` between them, each a number and what stands there that many times.
-pub fn add_parts(parts: &str, out: &mut Writer) {
+pub fn add_parts(parts: &str, out: &mut RowWriter) {
     for part in parts.split("|") {
         add_repeated(part, out);
     }

@@ -22,14 +22,14 @@ use pml_value::statement::outcome;
 use pml_value::view::View as Seen;
 use profile::MOST_FIELDS;
 use promela_run::live_channel::LiveChannel;
-use row_files::{Block, Writer};
+use row_files::{RowBlock, RowWriter};
 use run_printf::name_of_number;
 use run_printf::string::printed;
 use run_start::started::Started;
 use std::alloc::Global;
 
 /// A number of processes.
-fn count(text: &str, out: &mut Writer) -> u8 {
+fn count(text: &str, out: &mut RowWriter) -> u8 {
     u8::try_from(number(text, out)).unwrap_or(u8::MAX)
 }
 
@@ -42,7 +42,7 @@ struct Taker {
 }
 
 /// Who takes the statements, as these words say.
-fn taker_of(words: &str, out: &mut Writer) -> Taker {
+fn taker_of(words: &str, out: &mut RowWriter) -> Taker {
     let (pid, rest) = words.split_once(" of ").unwrap_or((words, ""));
     let (process_count, timeout) = rest.split_once(" ").unwrap_or((rest, ""));
     Taker {
@@ -152,7 +152,7 @@ fn stored(started: &mut Started, taker: Taker, action: &Action<'_>) -> Result<()
 }
 
 /// Writes what a condition is worth.
-fn add_worth(value: &Expr, view: &Seen<'_>, out: &mut Writer) {
+fn add_worth(value: &Expr, view: &Seen<'_>, out: &mut RowWriter) {
     match eval(value, view) {
         Ok(number) => out.signed(number),
         Err(fault) => add_stop(Stop::Fault(fault), out),
@@ -166,7 +166,7 @@ fn add_result(
     taker: Taker,
     action: &Action<'_>,
     text: &mut Vec<u8>,
-    out: &mut Writer,
+    out: &mut RowWriter,
 ) {
     let ended = match action {
         Action::Holds(value) => return add_worth(value, &seen(started, taker), out),
@@ -191,7 +191,7 @@ fn add_results(
     started: &mut Started,
     taker: Taker,
     text: &mut Vec<u8>,
-    out: &mut Writer,
+    out: &mut RowWriter,
 ) {
     for stmt in steps {
         out.space();
@@ -203,7 +203,7 @@ fn add_results(
 }
 
 /// Writes the messages of a channel.
-fn add_messages(out: &mut Writer, channel: &Channel) {
+fn add_messages(out: &mut RowWriter, channel: &Channel) {
     out.space();
     for place in 0..channel.len() {
         out.word("(");
@@ -216,7 +216,7 @@ fn add_messages(out: &mut Writer, channel: &Channel) {
 }
 
 /// Writes the numbers, and the messages of each channel.
-fn add_state(out: &mut Writer, cells: &[i32], channels: &[LiveChannel]) {
+fn add_state(out: &mut RowWriter, cells: &[i32], channels: &[LiveChannel]) {
     add_numbers(out, cells);
     out.word(" / ");
     for live in channels {
@@ -226,7 +226,7 @@ fn add_state(out: &mut Writer, cells: &[i32], channels: &[LiveChannel]) {
 }
 
 /// Writes bytes as rows do: a grave accent and two hexadecimal digits for one that is no printable sign.
-fn add_bytes(bytes: &[u8], out: &mut Writer) {
+fn add_bytes(bytes: &[u8], out: &mut RowWriter) {
     for byte in bytes {
         if *byte < b' ' || *byte > b'~' || *byte == b'`' {
             out.digits(*byte);
@@ -242,7 +242,7 @@ fn take_all(
     program: &Program<'_>,
     started: &mut Started,
     taker: Taker,
-    out: &mut Writer,
+    out: &mut RowWriter,
 ) -> Vec<u8> {
     let mut text = Vec::new(alloc);
     match program.proctypes.as_slice() {
@@ -263,14 +263,14 @@ fn take_all(
 pub fn add_done(
     alloc: Global,
     view: ModelView,
-    block: Block,
+    block: RowBlock,
     program: &Program<'_>,
     started: &mut Started,
-    out: &mut Writer,
+    out: &mut RowWriter,
 ) {
     let taker = taker_of(block.behind("process").unwrap_or("0 of 1"), out);
     write_all(alloc, block, &mut started.store, out);
-    let mut results = Writer::new(alloc);
+    let mut results = RowWriter::new(alloc);
     let text = take_all(alloc, program, started, taker, &mut results);
     match (view, results.refused()) {
         (_, Some(why)) => out.refuse(why),

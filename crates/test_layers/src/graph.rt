@@ -15,10 +15,10 @@ use pml_flow::edge::Edge;
 use pml_flow::graph::Graph;
 use pml_flow::statements::{Statements, all_statements};
 use pml_program::program::{Basic, Seq, Stmt};
-use row_files::Writer;
+use row_files::RowWriter;
 use std::alloc::{AllocError, Global};
 
-fn add_statement(out: &mut Writer, stmt: &Stmt<'_>) {
+fn add_statement(out: &mut RowWriter, stmt: &Stmt<'_>) {
     match &stmt.basic {
         Basic::DStep(_) => out.word("d_step"),
         _ => add_spaced(out, stmt.tokens.as_slice()),
@@ -26,7 +26,7 @@ fn add_statement(out: &mut Writer, stmt: &Stmt<'_>) {
 }
 
 /// Writes where an edge leads.
-fn add_target(out: &mut Writer, edge: Edge) {
+fn add_target(out: &mut RowWriter, edge: Edge) {
     out.word("] ");
     out.number(edge.target);
     if edge.keeps {
@@ -42,7 +42,7 @@ fn add_target(out: &mut Writer, edge: Edge) {
     out.word(";");
 }
 
-fn add_edge(out: &mut Writer, statements: &Statements<'_, '_>, level: usize, edge: Edge) {
+fn add_edge(out: &mut RowWriter, statements: &Statements<'_, '_>, level: usize, edge: Edge) {
     out.word(" ");
     out.number(level);
     out.word(" [");
@@ -52,13 +52,13 @@ fn add_edge(out: &mut Writer, statements: &Statements<'_, '_>, level: usize, edg
     add_target(out, edge);
 }
 
-fn add_level(out: &mut Writer, statements: &Statements<'_, '_>, level: usize, edges: &[Edge]) {
+fn add_level(out: &mut RowWriter, statements: &Statements<'_, '_>, level: usize, edges: &[Edge]) {
     for edge in edges {
         add_edge(out, statements, level, *edge);
     }
 }
 
-fn add_node(out: &mut Writer, statements: &Statements<'_, '_>, graph: &Graph, node: usize) {
+fn add_node(out: &mut RowWriter, statements: &Statements<'_, '_>, graph: &Graph, node: usize) {
     if node >= graph.node_count() {
         return;
     }
@@ -70,7 +70,7 @@ fn add_node(out: &mut Writer, statements: &Statements<'_, '_>, graph: &Graph, no
     out.word("\n");
 }
 
-fn add_nodes(out: &mut Writer, statements: &Statements<'_, '_>, graph: &Graph) {
+fn add_nodes(out: &mut RowWriter, statements: &Statements<'_, '_>, graph: &Graph) {
     out.word("start ");
     out.number(graph.start());
     out.word("\n");
@@ -79,14 +79,14 @@ fn add_nodes(out: &mut Writer, statements: &Statements<'_, '_>, graph: &Graph) {
     }
 }
 
-fn add_edges(alloc: Global, out: &mut Writer, body: &Seq<'_>, graph: &Graph) {
+fn add_edges(alloc: Global, out: &mut RowWriter, body: &Seq<'_>, graph: &Graph) {
     match all_statements(alloc, body) {
         Ok(statements) => add_nodes(out, &statements, graph),
         Err(AllocError) => out.no_memory(),
     }
 }
 
-fn add_levels(out: &mut Writer, graph: &Graph, node: usize) {
+fn add_levels(out: &mut RowWriter, graph: &Graph, node: usize) {
     if node >= graph.node_count() {
         return;
     }
@@ -102,13 +102,13 @@ fn add_levels(out: &mut Writer, graph: &Graph, node: usize) {
     out.word("\n");
 }
 
-fn add_all_levels(out: &mut Writer, graph: &Graph) {
+fn add_all_levels(out: &mut RowWriter, graph: &Graph) {
     for node in 0..graph.node_count() {
         add_levels(out, graph, node);
     }
 }
 
-fn add_texts(out: &mut Writer, graph: &Graph, edges: &[Edge]) {
+fn add_texts(out: &mut RowWriter, graph: &Graph, edges: &[Edge]) {
     for edge in edges {
         out.word(" ");
         out.bytes(graph.text(edge.statement));
@@ -116,7 +116,7 @@ fn add_texts(out: &mut Writer, graph: &Graph, edges: &[Edge]) {
     }
 }
 
-fn add_node_texts(out: &mut Writer, graph: &Graph, node: usize) {
+fn add_node_texts(out: &mut RowWriter, graph: &Graph, node: usize) {
     if node >= graph.node_count() {
         return;
     }
@@ -128,7 +128,7 @@ fn add_node_texts(out: &mut Writer, graph: &Graph, node: usize) {
     out.word("\n");
 }
 
-fn add_all_texts(out: &mut Writer, graph: &Graph) {
+fn add_all_texts(out: &mut RowWriter, graph: &Graph) {
     for node in 0..graph.node_count() {
         add_node_texts(out, graph, node);
     }
@@ -143,7 +143,7 @@ fn first_alike(graph: &Graph, atomic: Option<usize>) -> usize {
     0
 }
 
-fn add_marks(out: &mut Writer, graph: &Graph, node: usize) {
+fn add_marks(out: &mut RowWriter, graph: &Graph, node: usize) {
     if node >= graph.node_count() {
         return;
     }
@@ -160,14 +160,20 @@ fn add_marks(out: &mut Writer, graph: &Graph, node: usize) {
     out.word("\n");
 }
 
-fn add_all_marks(out: &mut Writer, graph: &Graph) {
+fn add_all_marks(out: &mut RowWriter, graph: &Graph) {
     for node in 0..graph.node_count() {
         add_marks(out, graph, node);
     }
 }
 
 /// Writes what is asked of the graph of a body.
-pub fn add_graph(alloc: Global, view: GraphView, body: &Seq<'_>, graph: &Graph, out: &mut Writer) {
+pub fn add_graph(
+    alloc: Global,
+    view: GraphView,
+    body: &Seq<'_>,
+    graph: &Graph,
+    out: &mut RowWriter,
+) {
     match view {
         GraphView::Levels => add_all_levels(out, graph),
         GraphView::Texts => add_all_texts(out, graph),

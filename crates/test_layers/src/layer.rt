@@ -30,7 +30,7 @@ pub static LAYERS: [&str; 8] = [
 
 /// What is asked of a text.
 #[derive(Clone, Copy)]
-pub enum View {
+pub enum LayerView {
     /// Its tokens.
     Tokens,
     /// How many tokens it has.
@@ -98,121 +98,121 @@ pub enum LinesView {
 
 /// A word of a part that says what is wanted.
 #[derive(Clone, Copy)]
-pub struct Wish {
+pub struct LayerWord {
     pub word: &'static str,
     /// The layer that is asked.
     pub layer: &'static str,
-    pub view: View,
+    pub view: LayerView,
 }
 
 /// What signs and beginnings of texts want.
-pub const TOKENS_WISH: Wish = Wish {
+pub const TOKENS_WISH: LayerWord = LayerWord {
     word: "tokens",
     layer: TOKENS,
-    view: View::Tokens,
+    view: LayerView::Tokens,
 };
 
 /// All words that say what is wanted.
-pub static WISHES: [Wish; 21] = [
+pub static WISHES: [LayerWord; 21] = [
     TOKENS_WISH,
-    Wish {
+    LayerWord {
         word: "count",
         layer: TOKENS,
-        view: View::Count,
+        view: LayerView::Count,
     },
-    Wish {
+    LayerWord {
         word: "parsed",
         layer: GRAMMAR,
-        view: View::Tree,
+        view: LayerView::Tree,
     },
-    Wish {
+    LayerWord {
         word: "parsed-as-cut",
         layer: GRAMMAR,
-        view: View::BareTree,
+        view: LayerView::BareTree,
     },
-    Wish {
+    LayerWord {
         word: "expressions",
         layer: GRAMMAR,
-        view: View::Model(ModelView::Expressions),
+        view: LayerView::Model(ModelView::Expressions),
     },
-    Wish {
+    LayerWord {
         word: "condition",
         layer: CONDITIONS,
-        view: View::Model(ModelView::Condition),
+        view: LayerView::Model(ModelView::Condition),
     },
-    Wish {
+    LayerWord {
         word: "model",
         layer: NAMES,
-        view: View::Model(ModelView::Whole),
+        view: LayerView::Model(ModelView::Whole),
     },
-    Wish {
+    LayerWord {
         word: "statements",
         layer: NAMES,
-        view: View::Model(ModelView::Statements),
+        view: LayerView::Model(ModelView::Statements),
     },
-    Wish {
+    LayerWord {
         word: "graph",
         layer: GRAPHS,
-        view: View::Model(ModelView::Graph(GraphView::Edges)),
+        view: LayerView::Model(ModelView::Graph(GraphView::Edges)),
     },
-    Wish {
+    LayerWord {
         word: "levels",
         layer: GRAPHS,
-        view: View::Model(ModelView::Graph(GraphView::Levels)),
+        view: LayerView::Model(ModelView::Graph(GraphView::Levels)),
     },
-    Wish {
+    LayerWord {
         word: "texts",
         layer: GRAPHS,
-        view: View::Model(ModelView::Graph(GraphView::Texts)),
+        view: LayerView::Model(ModelView::Graph(GraphView::Texts)),
     },
-    Wish {
+    LayerWord {
         word: "marks",
         layer: GRAPHS,
-        view: View::Model(ModelView::Graph(GraphView::Marks)),
+        view: LayerView::Model(ModelView::Graph(GraphView::Marks)),
     },
-    Wish {
+    LayerWord {
         word: "first-state",
         layer: VALUES,
-        view: View::Model(ModelView::FirstState),
+        view: LayerView::Model(ModelView::FirstState),
     },
-    Wish {
+    LayerWord {
         word: "created",
         layer: VALUES,
-        view: View::Model(ModelView::Created),
+        view: LayerView::Model(ModelView::Created),
     },
-    Wish {
+    LayerWord {
         word: "results",
         layer: VALUES,
-        view: View::Model(ModelView::Results),
+        view: LayerView::Model(ModelView::Results),
     },
-    Wish {
+    LayerWord {
         word: "printed",
         layer: VALUES,
-        view: View::Model(ModelView::Printed),
+        view: LayerView::Model(ModelView::Printed),
     },
-    Wish {
+    LayerWord {
         word: "state-behind",
         layer: VALUES,
-        view: View::Model(ModelView::StateBehind),
+        view: LayerView::Model(ModelView::StateBehind),
     },
-    Wish {
+    LayerWord {
         word: "values",
         layer: VALUE_LINES,
-        view: View::Model(ModelView::Lines(LinesView::Cells)),
+        view: LayerView::Model(ModelView::Lines(LinesView::Cells)),
     },
-    Wish {
+    LayerWord {
         word: "local-values",
         layer: VALUE_LINES,
-        view: View::Model(ModelView::Lines(LinesView::Locals)),
+        view: LayerView::Model(ModelView::Lines(LinesView::Locals)),
     },
-    Wish {
+    LayerWord {
         word: "logged-values",
         layer: VALUE_LINES,
-        view: View::Model(ModelView::Lines(LinesView::Writes)),
+        view: LayerView::Model(ModelView::Lines(LinesView::Writes)),
     },
-    Wish {
+    LayerWord {
         word: "words",
         layer: COMMAND_LINES,
-        view: View::Words,
+        view: LayerView::Words,
     },
 ];

@@ -6,7 +6,7 @@ use crate::numbers::{cells, indices, number};
 use pml_program::program::Program;
 use pml_store::store::Store;
 use promela_process::place::Place;
-use row_files::{Block, Pair, Writer, pairs};
+use row_files::{Pair, RowBlock, RowWriter, pairs};
 use run_layout::tables::Tables;
 use run_values::change::{Wanted, logged_lines, value_lines};
 use std::alloc::{AllocError, Global};
@@ -27,8 +27,8 @@ fn changes(
     tables: &Tables<'_, '_>,
     kinds: &[usize],
     wanted: Wanted,
-    block: Block,
-    out: &mut Writer,
+    block: RowBlock,
+    out: &mut RowWriter,
 ) -> Vec<u8> {
     let before = cells(alloc, block.part("before"), out);
     let after = cells(alloc, block.part("after"), out);
@@ -61,7 +61,7 @@ fn place_of(numbers: &[usize]) -> Option<Place> {
 }
 
 /// Stores the number of a line `FRAME VARIABLE CELL => NUMBER` at its place.
-fn write(alloc: Global, store: &mut Store, line: Pair, out: &mut Writer) {
+fn write(alloc: Global, store: &mut Store, line: Pair, out: &mut RowWriter) {
     let number = number(line.that, out);
     match place_of(indices(alloc, line.this, out)) {
         Some(place) if place.cell < store.size(place.frame, place.variable) => if store
@@ -75,14 +75,14 @@ fn write(alloc: Global, store: &mut Store, line: Pair, out: &mut Writer) {
 }
 
 /// Stores the numbers of these lines.
-fn write_lines(alloc: Global, store: &mut Store, lines: &[Pair], out: &mut Writer) {
+fn write_lines(alloc: Global, store: &mut Store, lines: &[Pair], out: &mut RowWriter) {
     for line in lines {
         write(alloc, store, *line, out);
     }
 }
 
 /// Stores the numbers of the part `writes`.
-pub fn write_all(alloc: Global, block: Block, store: &mut Store, out: &mut Writer) {
+pub fn write_all(alloc: Global, block: RowBlock, store: &mut Store, out: &mut RowWriter) {
     match pairs(alloc, block.part("writes")) {
         Ok(lines) => write_lines(alloc, store, lines, out),
         Err(AllocError) => out.no_memory(),
@@ -95,7 +95,7 @@ fn logged(
     tables: &Tables<'_, '_>,
     kinds: &[usize],
     store: &Store,
-    out: &mut Writer,
+    out: &mut RowWriter,
 ) -> Vec<u8> {
     let mut lines = Vec::new(alloc);
     if logged_lines(alloc, tables, kinds, ALL, store, &mut lines).is_err() {
@@ -109,8 +109,8 @@ fn writes(
     alloc: Global,
     tables: &Tables<'_, '_>,
     kinds: &[usize],
-    block: Block,
-    out: &mut Writer,
+    block: RowBlock,
+    out: &mut RowWriter,
 ) -> Vec<u8> {
     match first_store(alloc) {
         Ok(mut store) => {
@@ -128,8 +128,8 @@ fn add_known(
     alloc: Global,
     tables: &Tables<'_, '_>,
     view: LinesView,
-    block: Block,
-    out: &mut Writer,
+    block: RowBlock,
+    out: &mut RowWriter,
 ) {
     let kinds = indices(alloc, block.part("processes"), out);
     let lines = match view {
@@ -144,9 +144,9 @@ fn add_known(
 pub fn add_lines(
     alloc: Global,
     view: LinesView,
-    block: Block,
+    block: RowBlock,
     program: &Program<'_>,
-    out: &mut Writer,
+    out: &mut RowWriter,
 ) {
     match Tables::new(alloc, program) {
         Ok(tables) => add_known(alloc, &tables, view, block, out),

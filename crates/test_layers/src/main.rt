@@ -25,14 +25,14 @@ mod values;
 mod words;
 
 use crate::files::compare_files;
-use crate::tally::Tally;
+use crate::tally::LayerTally;
 use row_files::{Refused, names};
 use std::process::ExitCode;
 
 /// Compares the rows of all files that the words name, and prints how many passed. Answers whether all did.
 fn compare_all(rt: &HostRuntime) -> Result<bool, Refused> {
     let files = names(rt)?;
-    let mut tally = Tally::new(rt.alloc());
+    let mut tally = LayerTally::new(rt.alloc());
     compare_files(rt, files.as_slice(), &mut tally);
     Ok(tally.print(rt)?)
 }

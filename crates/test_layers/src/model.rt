@@ -11,7 +11,7 @@ use pml_program::program::{
 };
 use pml_token::token::Token;
 use pml_tree::tree::{Fill, Removal, Scalar, Search, SendOrder};
-use row_files::Writer;
+use row_files::RowWriter;
 use sqlite_items::Items;
 
 fn scalar(scalar: Scalar) -> &'static str {
@@ -27,7 +27,7 @@ fn scalar(scalar: Scalar) -> &'static str {
     }
 }
 
-fn form(out: &mut Writer, form: Form) {
+fn form(out: &mut RowWriter, form: Form) {
     match form {
         Form::Plain(plain) => out.word(scalar(plain)),
         Form::Unsigned(width) => {
@@ -67,7 +67,7 @@ fn polled(search: Search) -> &'static str {
 }
 
 #[cycle(value)]
-fn value(out: &mut Writer, v: &Expr) {
+fn value(out: &mut RowWriter, v: &Expr) {
     match v {
         Expr::Number(n) => out.signed(*n),
         Expr::Pid => out.word("_pid"),
@@ -99,7 +99,7 @@ fn value(out: &mut Writer, v: &Expr) {
 
 /// An expression between two words.
 #[cycle(value)]
-fn between(out: &mut Writer, before: &str, v: &Expr, behind: &str) {
+fn between(out: &mut RowWriter, before: &str, v: &Expr, behind: &str) {
     out.word(before);
     value(out, v);
     out.word(behind);
@@ -107,13 +107,13 @@ fn between(out: &mut Writer, before: &str, v: &Expr, behind: &str) {
 
 /// A place behind a word.
 #[cycle(value)]
-fn named(out: &mut Writer, before: &str, t: &Target) {
+fn named(out: &mut RowWriter, before: &str, t: &Target) {
     out.word(before);
     target(out, t);
 }
 
 #[cycle(value)]
-fn wants(out: &mut Writer, ws: &Items<Want>) {
+fn wants(out: &mut RowWriter, ws: &Items<Want>) {
     for w in ws.as_slice() {
         out.word(" ");
         want(out, w);
@@ -121,7 +121,7 @@ fn wants(out: &mut Writer, ws: &Items<Want>) {
 }
 
 #[cycle(value)]
-fn want(out: &mut Writer, w: &Want) {
+fn want(out: &mut RowWriter, w: &Want) {
     match w {
         Want::Exactly(n) => {
             out.word("=");
@@ -134,7 +134,7 @@ fn want(out: &mut Writer, w: &Want) {
 }
 
 #[cycle(value)]
-fn target(out: &mut Writer, t: &Target) {
+fn target(out: &mut RowWriter, t: &Target) {
     form(out, t.form);
     out.word(if t.local { " L" } else { " G" });
     out.number(t.variable);
@@ -144,7 +144,7 @@ fn target(out: &mut Writer, t: &Target) {
 }
 
 #[cycle(value)]
-fn turn(out: &mut Writer, t: &Turn) {
+fn turn(out: &mut RowWriter, t: &Turn) {
     cells(out, t.offset, t.length, t.stride);
     match &t.index {
         None => {}
@@ -152,20 +152,20 @@ fn turn(out: &mut Writer, t: &Turn) {
     }
 }
 
-fn values(out: &mut Writer, vs: &Items<Expr>) {
+fn values(out: &mut RowWriter, vs: &Items<Expr>) {
     for v in vs.as_slice() {
         out.word(" ");
         value(out, v);
     }
 }
 
-fn run(out: &mut Writer, r: &Run) {
+fn run(out: &mut RowWriter, r: &Run) {
     out.word("run ");
     out.number(r.proctype);
     values(out, &r.arguments);
 }
 
-fn store(out: &mut Writer, to: &Option<Target>) {
+fn store(out: &mut RowWriter, to: &Option<Target>) {
     match to {
         None => out.word("_ = "),
         Some(t) => {
@@ -190,19 +190,19 @@ fn left(removal: Removal) -> &'static str {
 }
 
 /// A channel, and how it is sent to or received from.
-fn channel(out: &mut Writer, t: &Target, how: &str, left: &str) {
+fn channel(out: &mut RowWriter, t: &Target, how: &str, left: &str) {
     target(out, t);
     out.word(how);
     out.word(left);
 }
 
 /// A token behind a word.
-fn named_by(out: &mut Writer, before: &str, t: &Token<'_>) {
+fn named_by(out: &mut RowWriter, before: &str, t: &Token<'_>) {
     out.word(before);
     out.bytes(t.text());
 }
 
-fn action(out: &mut Writer, a: &Action<'_>) {
+fn action(out: &mut RowWriter, a: &Action<'_>) {
     match a {
         Action::Else => out.word("else"),
         Action::Assign(t, v) => {
@@ -235,7 +235,7 @@ fn action(out: &mut Writer, a: &Action<'_>) {
 }
 
 #[cycle(statement)]
-fn basic(out: &mut Writer, b: &Basic<'_>) {
+fn basic(out: &mut RowWriter, b: &Basic<'_>) {
     match b {
         Basic::Plain(a) => action(out, a),
         Basic::Goto(l) => named_by(out, "goto ", l),
@@ -253,7 +253,7 @@ fn basic(out: &mut Writer, b: &Basic<'_>) {
 }
 
 #[cycle(statement)]
-fn seqs(out: &mut Writer, before: &str, ss: &Items<Seq<'_>>) {
+fn seqs(out: &mut RowWriter, before: &str, ss: &Items<Seq<'_>>) {
     out.word(before);
     for s in ss.as_slice() {
         seq(out, " ::", s);
@@ -261,7 +261,7 @@ fn seqs(out: &mut Writer, before: &str, ss: &Items<Seq<'_>>) {
 }
 
 #[cycle(statement)]
-fn seq(out: &mut Writer, before: &str, s: &Seq<'_>) {
+fn seq(out: &mut RowWriter, before: &str, s: &Seq<'_>) {
     out.word(before);
     out.word("{\n");
     for one in s.steps.as_slice() {
@@ -270,7 +270,7 @@ fn seq(out: &mut Writer, before: &str, s: &Seq<'_>) {
     out.word("}");
 }
 
-fn labels(out: &mut Writer, all: &Items<Token<'_>>) {
+fn labels(out: &mut RowWriter, all: &Items<Token<'_>>) {
     for label in all.as_slice() {
         out.bytes(label.text());
         out.word(": ");
@@ -278,13 +278,13 @@ fn labels(out: &mut Writer, all: &Items<Token<'_>>) {
 }
 
 #[cycle(statement)]
-fn stmt(out: &mut Writer, s: &Stmt<'_>) {
+fn stmt(out: &mut RowWriter, s: &Stmt<'_>) {
     labels(out, &s.labels);
     basic(out, &s.basic);
     out.word(";\n");
 }
 
-fn fields_of_messages(out: &mut Writer, forms: &[Form]) {
+fn fields_of_messages(out: &mut RowWriter, forms: &[Form]) {
     for one in forms {
         out.word(" ");
         form(out, *one);
@@ -292,7 +292,7 @@ fn fields_of_messages(out: &mut Writer, forms: &[Form]) {
 }
 
 /// A cell, and how far on the others of its array lie.
-fn cells(out: &mut Writer, offset: u32, length: u32, stride: u32) {
+fn cells(out: &mut RowWriter, offset: u32, length: u32, stride: u32) {
     out.word("+");
     out.count(offset);
     out.word(":");
@@ -301,7 +301,7 @@ fn cells(out: &mut Writer, offset: u32, length: u32, stride: u32) {
     out.count(stride);
 }
 
-fn initial(out: &mut Writer, i: &Initial) {
+fn initial(out: &mut RowWriter, i: &Initial) {
     match i {
         Initial::Zero => {}
         Initial::Value(v) => between(out, " = ", v, ""),
@@ -314,7 +314,7 @@ fn initial(out: &mut Writer, i: &Initial) {
     }
 }
 
-fn slot(out: &mut Writer, s: &Slot<'_>) {
+fn slot(out: &mut RowWriter, s: &Slot<'_>) {
     form(out, s.form);
     named_by(out, " ", &s.name);
     out.word(if s.array { "[]" } else { "" });
@@ -323,13 +323,13 @@ fn slot(out: &mut Writer, s: &Slot<'_>) {
     out.word("; ");
 }
 
-fn slots(out: &mut Writer, all: &Items<Slot<'_>>) {
+fn slots(out: &mut RowWriter, all: &Items<Slot<'_>>) {
     for one in all.as_slice() {
         slot(out, one);
     }
 }
 
-fn fields(out: &mut Writer, f: &Fields<'_>) {
+fn fields(out: &mut RowWriter, f: &Fields<'_>) {
     out.word("typedef ");
     out.number(f.owner);
     out.word(" ");
@@ -337,7 +337,7 @@ fn fields(out: &mut Writer, f: &Fields<'_>) {
     out.word("\n");
 }
 
-fn process(out: &mut Writer, p: &Proctype<'_>) {
+fn process(out: &mut RowWriter, p: &Proctype<'_>) {
     out.bytes(p.name.text());
     out.word(" ");
     out.number(p.owner);
@@ -353,7 +353,7 @@ fn process(out: &mut Writer, p: &Proctype<'_>) {
     out.word("\n");
 }
 
-fn constants(out: &mut Writer, names: &[Token<'_>]) {
+fn constants(out: &mut RowWriter, names: &[Token<'_>]) {
     for name in names {
         out.bytes(name.text());
         out.word(" ");
@@ -361,20 +361,20 @@ fn constants(out: &mut Writer, names: &[Token<'_>]) {
     out.word("\n");
 }
 
-fn typedefs(out: &mut Writer, all: &[Fields<'_>]) {
+fn typedefs(out: &mut RowWriter, all: &[Fields<'_>]) {
     for one in all {
         fields(out, one);
     }
 }
 
-fn processes(out: &mut Writer, all: &[Proctype<'_>]) {
+fn processes(out: &mut RowWriter, all: &[Proctype<'_>]) {
     for one in all {
         process(out, one);
     }
 }
 
 /// Writes a checked model, a line for the globals, one for the mtype names, and one for each typedef and proctype.
-pub fn add_model(program: &Program<'_>, out: &mut Writer) {
+pub fn add_model(program: &Program<'_>, out: &mut RowWriter) {
     slots(out, &program.globals);
     out.word("\n");
     constants(out, program.constants.as_slice());

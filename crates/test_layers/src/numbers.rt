@@ -1,9 +1,9 @@
 //! The numbers that a row writes. They stay as long as the program runs.
-use row_files::Writer;
+use row_files::RowWriter;
 use std::alloc::{AllocError, Global};
 
 /// The number that is written so.
-pub fn number(text: &str, out: &mut Writer) -> i32 {
+pub fn number(text: &str, out: &mut RowWriter) -> i32 {
     match text.parse::<i32>() {
         Ok(number) => number,
         Err(_) => {
@@ -13,7 +13,7 @@ pub fn number(text: &str, out: &mut Writer) -> i32 {
     }
 }
 
-fn numbers(alloc: Global, text: &str, out: &mut Writer) -> Result<Vec<i32>, AllocError> {
+fn numbers(alloc: Global, text: &str, out: &mut RowWriter) -> Result<Vec<i32>, AllocError> {
     let mut numbers = Vec::new(alloc);
     for word in text.split(' ') {
         numbers.push(number(word, out))?;
@@ -22,7 +22,7 @@ fn numbers(alloc: Global, text: &str, out: &mut Writer) -> Result<Vec<i32>, Allo
 }
 
 /// The numbers that are written with a blank between them; none, where nothing is written.
-pub fn cells(alloc: Global, text: &str, out: &mut Writer) -> &'static [i32] {
+pub fn cells(alloc: Global, text: &str, out: &mut RowWriter) -> &'static [i32] {
     if text.is_empty() {
         return &[];
     }
@@ -44,7 +44,7 @@ fn counts(alloc: Global, cells: &[i32]) -> Result<Vec<usize>, AllocError> {
 }
 
 /// The same of numbers that are not below 0; a large one stands for one that is.
-pub fn indices(alloc: Global, text: &str, out: &mut Writer) -> &'static [usize] {
+pub fn indices(alloc: Global, text: &str, out: &mut RowWriter) -> &'static [usize] {
     match counts(alloc, cells(alloc, text, out)) {
         Ok(counts) => counts.leak(),
         Err(AllocError) => {

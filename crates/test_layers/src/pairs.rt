@@ -2,15 +2,15 @@
 //! pairs that give other tokens without a blank between them, each as `SIGN SIGN => TOKENS`.
 use crate::bytes::bytes_of;
 use crate::layer::TOKENS_WISH;
-use crate::place::Place;
-use crate::tally::Tally;
-use row_files::{Pair, Writer};
+use crate::place::FileBlock;
+use crate::tally::LayerTally;
+use row_files::{Pair, RowWriter};
 use std::alloc::Global;
 
 const LEFT_OUT: &str = "LeftOut(1)";
 
 /// Compares the tokens of a text that is written so.
-fn compare(alloc: Global, place: Place, written: &str, wanted: &str, tally: &mut Tally) {
+fn compare(alloc: Global, place: FileBlock, written: &str, wanted: &str, tally: &mut LayerTally) {
     match bytes_of(alloc, written) {
         Ok(text) => {
             let came = place.answered(alloc, TOKENS_WISH, text.as_slice());
@@ -21,8 +21,8 @@ fn compare(alloc: Global, place: Place, written: &str, wanted: &str, tally: &mut
 }
 
 /// Two signs with this between them.
-fn both(alloc: Global, first: &str, between: &str, second: &str) -> Writer {
-    let mut out = Writer::new(alloc);
+fn both(alloc: Global, first: &str, between: &str, second: &str) -> RowWriter {
+    let mut out = RowWriter::new(alloc);
     out.word(first);
     out.word(between);
     out.word(second);
@@ -30,7 +30,7 @@ fn both(alloc: Global, first: &str, between: &str, second: &str) -> Writer {
 }
 
 /// What two signs give with a blank between them. The first refusal is the answer.
-fn apart(alloc: Global, first: Pair, second: Pair) -> Writer {
+fn apart(alloc: Global, first: Pair, second: Pair) -> RowWriter {
     if first.that == LEFT_OUT || second.that == LEFT_OUT {
         return both(alloc, LEFT_OUT, "", "");
     }
@@ -49,11 +49,11 @@ fn said<'s>(lines: &[Pair], text: &str, words: &'s str) -> &'s str {
 
 fn compare_pair(
     alloc: Global,
-    place: Place,
+    place: FileBlock,
     first: Pair,
     second: Pair,
     joined: &[Pair],
-    tally: &mut Tally,
+    tally: &mut LayerTally,
 ) {
     let wanted = apart(alloc, first, second);
     let text = both(alloc, first.this, " ", second.this);
@@ -66,11 +66,11 @@ fn compare_pair(
 /// Compares a sign alone, and before each sign.
 fn compare_sign(
     alloc: Global,
-    place: Place,
+    place: FileBlock,
     first: Pair,
     signs: &[Pair],
     joined: &[Pair],
-    tally: &mut Tally,
+    tally: &mut LayerTally,
 ) {
     if first.that.is_empty() {
         tally.refuse(place, "a sign without tokens");
@@ -93,7 +93,7 @@ fn are_of_signs(joined: &[Pair], signs: &[Pair]) -> bool {
 }
 
 /// Compares the signs of a block.
-pub fn compare_signs(alloc: Global, place: Place, tally: &mut Tally) {
+pub fn compare_signs(alloc: Global, place: FileBlock, tally: &mut LayerTally) {
     let signs = place.lines(alloc, "signs", tally);
     let joined = place.lines(alloc, "joined", tally);
     if !are_of_signs(joined, signs) {

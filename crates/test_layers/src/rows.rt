@@ -2,10 +2,10 @@
 //! words of what is asked. Where the block has a part `each`, it is a row for each line `THIS => THAT` there, or `THIS`, for which `@this` and
 //! `@that` stand in the other parts.
 use crate::bytes::{add_parts, bytes_of};
-use crate::layer::{WISHES, Wish};
-use crate::place::Place;
-use crate::tally::Tally;
-use row_files::{Block, Pair, Refused, Writer, pairs};
+use crate::layer::{LayerWord, WISHES};
+use crate::place::FileBlock;
+use crate::tally::LayerTally;
+use row_files::{Pair, Refused, RowBlock, RowWriter, pairs};
 use std::alloc::{AllocError, Global};
 
 /// The words that begin a part.
@@ -48,14 +48,14 @@ pub static WORDS: [&str; 35] = [
 ];
 
 /// What stands in a part, with `@this` and `@that` filled.
-fn filled(alloc: Global, block: Block, word: &str, filling: Pair) -> Result<String, AllocError> {
+fn filled(alloc: Global, block: RowBlock, word: &str, filling: Pair) -> Result<String, AllocError> {
     let text = block.text(alloc, word)?;
     let text = text.replace(alloc, "@that", filling.that)?;
     text.replace(alloc, "@this", filling.this)
 }
 
 fn joined(alloc: Global, parts: &str) -> Result<Vec<u8>, Refused> {
-    let mut out = Writer::new(alloc);
+    let mut out = RowWriter::new(alloc);
     add_parts(parts, &mut out);
     match out.refused() {
         Some(why) => Err(Refused::from(why)),
@@ -63,7 +63,7 @@ fn joined(alloc: Global, parts: &str) -> Result<Vec<u8>, Refused> {
     }
 }
 
-fn text_of(alloc: Global, block: Block, filling: Pair) -> Result<Vec<u8>, Refused> {
+fn text_of(alloc: Global, block: RowBlock, filling: Pair) -> Result<Vec<u8>, Refused> {
     if block.has("parts") {
         let parts = filled(alloc, block, "parts", filling)?;
         return joined(alloc, parts.as_str());
@@ -77,11 +77,11 @@ fn text_of(alloc: Global, block: Block, filling: Pair) -> Result<Vec<u8>, Refuse
 
 fn compare_wish(
     alloc: Global,
-    place: Place,
+    place: FileBlock,
     filling: Pair,
-    wish: Wish,
+    wish: LayerWord,
     text: &[u8],
-    tally: &mut Tally,
+    tally: &mut LayerTally,
 ) {
     match filled(alloc, place.block, wish.word, filling) {
         Ok(wanted) => {
@@ -92,7 +92,13 @@ fn compare_wish(
     }
 }
 
-fn compare_wishes(alloc: Global, place: Place, filling: Pair, text: &[u8], tally: &mut Tally) {
+fn compare_wishes(
+    alloc: Global,
+    place: FileBlock,
+    filling: Pair,
+    text: &[u8],
+    tally: &mut LayerTally,
+) {
     for wish in &WISHES {
         if place.block.has(wish.word) {
             compare_wish(alloc, place, filling, *wish, text, tally);
@@ -100,14 +106,14 @@ fn compare_wishes(alloc: Global, place: Place, filling: Pair, text: &[u8], tally
     }
 }
 
-fn compare_row(alloc: Global, place: Place, filling: Pair, tally: &mut Tally) {
+fn compare_row(alloc: Global, place: FileBlock, filling: Pair, tally: &mut LayerTally) {
     match text_of(alloc, place.block, filling) {
         Ok(text) => compare_wishes(alloc, place, filling, text.as_slice(), tally),
         Err(refused) => tally.refuse(place, refused.why),
     }
 }
 
-fn wants_nothing(block: Block) -> bool {
+fn wants_nothing(block: RowBlock) -> bool {
     for wish in &WISHES {
         if block.has(wish.word) {
             return false;
@@ -117,7 +123,7 @@ fn wants_nothing(block: Block) -> bool {
 }
 
 /// Compares a row for each line of a part `each`.
-fn compare_each(alloc: Global, place: Place, tally: &mut Tally) {
+fn compare_each(alloc: Global, place: FileBlock, tally: &mut LayerTally) {
     match pairs(alloc, place.block.part("each")) {
         Ok([]) => tally.refuse(place, "a block without a row"),
         Ok(lines) => compare_lines(alloc, place, lines, tally),
@@ -125,14 +131,14 @@ fn compare_each(alloc: Global, place: Place, tally: &mut Tally) {
     }
 }
 
-fn compare_lines(alloc: Global, place: Place, lines: &[Pair], tally: &mut Tally) {
+fn compare_lines(alloc: Global, place: FileBlock, lines: &[Pair], tally: &mut LayerTally) {
     for line in lines {
         compare_row(alloc, place, *line, tally);
     }
 }
 
 /// Compares the rows of a block.
-pub fn compare_rows(alloc: Global, place: Place, tally: &mut Tally) {
+pub fn compare_rows(alloc: Global, place: FileBlock, tally: &mut LayerTally) {
     if wants_nothing(place.block) {
         tally.refuse(place, "a row that wants nothing");
     } else if place.block.has("each") {

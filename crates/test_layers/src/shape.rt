@@ -2,10 +2,10 @@
 use crate::signs::{infix, prefix};
 use pml_program::expr::{Expr, Target};
 use pml_program::program::{Action, Basic, Proctype, Program, Slot, Stmt};
-use row_files::Writer;
+use row_files::RowWriter;
 
 /// The name of a global variable.
-fn add_name(globals: &[Slot<'_>], target: &Target, out: &mut Writer) {
+fn add_name(globals: &[Slot<'_>], target: &Target, out: &mut RowWriter) {
     match globals.get(target.variable) {
         Some(slot) => out.bytes(slot.name.text()),
         None => out.refuse("no such global"),
@@ -13,7 +13,7 @@ fn add_name(globals: &[Slot<'_>], target: &Target, out: &mut Writer) {
 }
 
 /// An expression with its parentheses.
-fn add_expr(globals: &[Slot<'_>], x: &Expr, out: &mut Writer) {
+fn add_expr(globals: &[Slot<'_>], x: &Expr, out: &mut RowWriter) {
     match x {
         Expr::Number(n) => out.signed(*n),
         Expr::Pid => out.word("_pid"),
@@ -53,13 +53,13 @@ fn add_expr(globals: &[Slot<'_>], x: &Expr, out: &mut Writer) {
     }
 }
 
-fn add_statement(globals: &[Slot<'_>], stmt: &Stmt<'_>, out: &mut Writer) {
+fn add_statement(globals: &[Slot<'_>], stmt: &Stmt<'_>, out: &mut RowWriter) {
     if let Basic::Plain(Action::Holds(x)) = &stmt.basic {
         add_expr(globals, x, out);
     }
 }
 
-fn add_process(globals: &[Slot<'_>], process: &Proctype<'_>, out: &mut Writer) {
+fn add_process(globals: &[Slot<'_>], process: &Proctype<'_>, out: &mut RowWriter) {
     for stmt in process.body.steps.as_slice() {
         add_statement(globals, stmt, out);
     }
@@ -67,7 +67,7 @@ fn add_process(globals: &[Slot<'_>], process: &Proctype<'_>, out: &mut Writer) {
 
 /// Writes the expressions that are statements of the bodies of proctypes. Each operator with its operands stands in brackets, and references are
 /// written as the names of global variables.
-pub fn add_expressions(program: &Program<'_>, out: &mut Writer) {
+pub fn add_expressions(program: &Program<'_>, out: &mut RowWriter) {
     for process in program.proctypes.as_slice() {
         add_process(program.globals.as_slice(), process, out);
     }

@@ -4,11 +4,11 @@
 //! `d_step` have the same with their word, and behind them the statements in them; braces, `atomic` and `unless` have those alone.
 use pml_program::program::{Basic, Program, Seq, Stmt};
 use pml_token::token::Token;
-use row_files::Writer;
+use row_files::RowWriter;
 use sqlite_items::Items;
 
 /// Writes the texts of tokens with a space between them.
-pub fn add_spaced(out: &mut Writer, tokens: &[Token<'_>]) {
+pub fn add_spaced(out: &mut RowWriter, tokens: &[Token<'_>]) {
     for (number, token) in tokens.iter().enumerate() {
         if number > 0 {
             out.word(" ");
@@ -23,7 +23,7 @@ fn first_of<'t, 'a>(tokens: &'t [Token<'a>]) -> &'t [Token<'a>] {
 }
 
 /// Writes the line of the first token and, in brackets, all of them.
-fn add_text(out: &mut Writer, tokens: &[Token<'_>]) {
+fn add_text(out: &mut RowWriter, tokens: &[Token<'_>]) {
     if let [first, ..] = tokens {
         out.count(first.line());
     }
@@ -33,7 +33,7 @@ fn add_text(out: &mut Writer, tokens: &[Token<'_>]) {
 }
 
 #[cycle(statement)]
-fn stmt(out: &mut Writer, s: &Stmt<'_>) {
+fn stmt(out: &mut RowWriter, s: &Stmt<'_>) {
     let tokens = s.tokens.as_slice();
     match &s.basic {
         Basic::Plain(_) | Basic::Goto(_) | Basic::Break => add_text(out, tokens),
@@ -54,21 +54,21 @@ fn stmt(out: &mut Writer, s: &Stmt<'_>) {
 }
 
 #[cycle(statement)]
-fn seqs(out: &mut Writer, ss: &Items<Seq<'_>>) {
+fn seqs(out: &mut RowWriter, ss: &Items<Seq<'_>>) {
     for s in ss.as_slice() {
         seq(out, s);
     }
 }
 
 #[cycle(statement)]
-fn seq(out: &mut Writer, s: &Seq<'_>) {
+fn seq(out: &mut RowWriter, s: &Seq<'_>) {
     for one in s.steps.as_slice() {
         stmt(out, one);
     }
 }
 
 /// Writes the texts of the statements of a checked model, in the order in which they stand.
-pub fn add_texts(program: &Program<'_>, out: &mut Writer) {
+pub fn add_texts(program: &Program<'_>, out: &mut RowWriter) {
     for one in program.proctypes.as_slice() {
         seq(out, &one.body);
     }

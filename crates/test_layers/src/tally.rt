@@ -1,26 +1,26 @@
 //! How many rows of each layer are as they want, and what is told of the others.
 use crate::layer::LAYERS;
-use crate::place::Place;
-use row_files::{Told, Writer};
+use crate::place::FileBlock;
+use row_files::{RowReport, RowWriter};
 use std::alloc::Global;
 use std::io;
 
 /// The rows that were read.
 #[derive(Drop)]
-pub struct Tally {
+pub struct LayerTally {
     /// The layer of each row that is as it wants.
     passed: Vec<&'static str>,
     failed: u32,
-    told: Told,
+    told: RowReport,
 }
 
-impl Tally {
+impl LayerTally {
     /// No row was read.
-    pub fn new(alloc: Global) -> Tally {
-        Tally {
+    pub fn new(alloc: Global) -> LayerTally {
+        LayerTally {
             passed: Vec::new(alloc),
             failed: 0,
-            told: Told::new(alloc),
+            told: RowReport::new(alloc),
         }
     }
 
@@ -38,7 +38,7 @@ impl Tally {
     }
 
     /// Tells where a row that is not as it wants stands.
-    fn tell_place(&mut self, place: Place) {
+    fn tell_place(&mut self, place: FileBlock) {
         self.told.add(place.file);
         self.told.count(":", place.block.line);
         self.told.add(": row '");
@@ -47,7 +47,7 @@ impl Tally {
     }
 
     /// A block is not read.
-    pub fn refuse(&mut self, place: Place, why: &str) {
+    pub fn refuse(&mut self, place: FileBlock, why: &str) {
         self.tell_place(place);
         self.told.add(": ");
         self.fail(why);
@@ -64,7 +64,7 @@ impl Tally {
     }
 
     /// A row, in which this stands for `@this`, wants another text than came.
-    pub fn differ(&mut self, place: Place, this: &str, what: &str, wanted: &str, came: &str) {
+    pub fn differ(&mut self, place: FileBlock, this: &str, what: &str, wanted: &str, came: &str) {
         self.tell_place(place);
         self.told.add(" ");
         self.told.add(this);

@@ -2,9 +2,9 @@
 //! ASCII is written by a grave accent and its digits.
 use pml_lex::limits::first_too_deep;
 use pml_token::token::Token;
-use row_files::Writer;
+use row_files::RowWriter;
 
-fn add_text(text: &[u8], out: &mut Writer) {
+fn add_text(text: &[u8], out: &mut RowWriter) {
     for byte in text {
         if b'!' <= *byte && *byte <= b'~' {
             out.byte(*byte);
@@ -14,7 +14,7 @@ fn add_text(text: &[u8], out: &mut Writer) {
     }
 }
 
-fn add_token(token: &Token<'_>, out: &mut Writer) {
+fn add_token(token: &Token<'_>, out: &mut RowWriter) {
     out.kind(&token.kind());
     out.word("@");
     out.count(token.line());
@@ -23,7 +23,7 @@ fn add_token(token: &Token<'_>, out: &mut Writer) {
 }
 
 /// Writes tokens as a row does.
-pub fn add_tokens(tokens: &[Token<'_>], out: &mut Writer) {
+pub fn add_tokens(tokens: &[Token<'_>], out: &mut RowWriter) {
     let mut before = "";
     for token in tokens {
         out.word(before);
@@ -36,7 +36,7 @@ pub fn add_tokens(tokens: &[Token<'_>], out: &mut Writer) {
 }
 
 /// Writes how many tokens there are, or the line of the first one at which they go too deep.
-pub fn add_count(tokens: &[Token<'_>], out: &mut Writer) {
+pub fn add_count(tokens: &[Token<'_>], out: &mut RowWriter) {
     match first_too_deep(tokens) {
         Some(line) => {
             out.word("TooDeep(");

@@ -1,6 +1,6 @@
 //! What the layers make of a tree.
 use crate::graph::add_graph;
-use crate::layer::{GraphView, ModelView, View};
+use crate::layer::{GraphView, LayerView, ModelView};
 use crate::lines::add_lines;
 use crate::model::add_model;
 use crate::shape::add_expressions;
@@ -12,12 +12,18 @@ use pml_program::program::Program;
 use pml_syntax::{SyntaxError, parse};
 use pml_token::token::Token;
 use pml_tree::tree::Tree;
-use row_files::{Block, Writer};
+use row_files::{RowBlock, RowWriter};
 use run_start::start::start;
 use std::alloc::{AllocError, Global};
 
 /// What is asked of a checked model.
-fn of_model(alloc: Global, view: ModelView, block: Block, checked: &Checked<'_>, out: &mut Writer) {
+fn of_model(
+    alloc: Global,
+    view: ModelView,
+    block: RowBlock,
+    checked: &Checked<'_>,
+    out: &mut RowWriter,
+) {
     let program = checked.program();
     match view {
         ModelView::Condition => out.word("none"),
@@ -40,7 +46,7 @@ fn of_graphs(
     view: GraphView,
     program: &Program<'_>,
     graphs: &[Graph],
-    out: &mut Writer,
+    out: &mut RowWriter,
 ) {
     match (program.proctypes.as_slice(), graphs) {
         ([proctype, ..], [graph, ..]) => add_graph(alloc, view, &proctype.body, graph, out),
@@ -48,7 +54,7 @@ fn of_graphs(
     }
 }
 
-fn add_fault(fault: CheckFault, out: &mut Writer) {
+fn add_fault(fault: CheckFault, out: &mut RowWriter) {
     match fault {
         CheckFault::Refused(refusal) => {
             out.word("M");
@@ -59,7 +65,13 @@ fn add_fault(fault: CheckFault, out: &mut Writer) {
 }
 
 /// What the layers make of the model that a tree is.
-fn of_checked<'a>(alloc: Global, view: ModelView, block: Block, tree: Tree<'a>, out: &mut Writer) {
+fn of_checked<'a>(
+    alloc: Global,
+    view: ModelView,
+    block: RowBlock,
+    tree: Tree<'a>,
+    out: &mut RowWriter,
+) {
     match check(alloc, tree) {
         Ok(checked) => of_model(alloc, view, block, &checked, out),
         Err(fault) => add_fault(fault, out),
@@ -67,15 +79,21 @@ fn of_checked<'a>(alloc: Global, view: ModelView, block: Block, tree: Tree<'a>, 
 }
 
 /// A tree is there. It is let go by a check: a program that drops one itself proves anew how each of its parts is dropped.
-fn of_tree<'a>(alloc: Global, tree: Tree<'a>, out: &mut Writer) {
+fn of_tree<'a>(alloc: Global, tree: Tree<'a>, out: &mut RowWriter) {
     let _ = check(alloc, tree);
     out.word("tree");
 }
 
 /// What the layers make of a tree, or of the model that it is.
-fn of_parsed<'a>(alloc: Global, view: View, block: Block, tree: Tree<'a>, out: &mut Writer) {
+fn of_parsed<'a>(
+    alloc: Global,
+    view: LayerView,
+    block: RowBlock,
+    tree: Tree<'a>,
+    out: &mut RowWriter,
+) {
     match view {
-        View::Model(view) => of_checked(alloc, view, block, tree, out),
+        LayerView::Model(view) => of_checked(alloc, view, block, tree, out),
         _ => of_tree(alloc, tree, out),
     }
 }
@@ -83,10 +101,10 @@ fn of_parsed<'a>(alloc: Global, view: View, block: Block, tree: Tree<'a>, out: &
 /// Writes what the layers make of the tree that tokens have, or the line that no rule reads.
 pub fn of_tokens<'a>(
     alloc: Global,
-    view: View,
-    block: Block,
+    view: LayerView,
+    block: RowBlock,
     tokens: &'a [Token<'a>],
-    out: &mut Writer,
+    out: &mut RowWriter,
 ) {
     match parse(alloc, tokens) {
         Ok(tree) => of_parsed(alloc, view, block, tree, out),

@@ -13,7 +13,7 @@ use diagnostics::Stop;
 use pml_program::program::{Program, Slot};
 use pml_store::store::Store;
 use promela_run::live_channel::LiveChannel;
-use row_files::{Block, Writer};
+use row_files::{RowBlock, RowWriter};
 use run_layout::cells::size;
 use run_start::Beginnings;
 use run_start::create::create;
@@ -24,7 +24,7 @@ use std::alloc::{AllocError, Global};
 const MANY: usize = 10;
 
 /// Writes a number so many times.
-fn add_run(out: &mut Writer, number: i32, count: usize) {
+fn add_run(out: &mut RowWriter, number: i32, count: usize) {
     if count >= MANY {
         out.space();
         out.signed(number);
@@ -39,7 +39,7 @@ fn add_run(out: &mut Writer, number: i32, count: usize) {
 }
 
 /// Writes numbers, or a dash.
-pub fn add_numbers(out: &mut Writer, numbers: &[i32]) {
+pub fn add_numbers(out: &mut RowWriter, numbers: &[i32]) {
     let mut last = 0;
     let mut count = 0usize;
     for number in numbers {
@@ -55,14 +55,14 @@ pub fn add_numbers(out: &mut Writer, numbers: &[i32]) {
 }
 
 /// Writes a dash where there is nothing else.
-pub fn add_dash(out: &mut Writer, is_empty: bool) {
+pub fn add_dash(out: &mut RowWriter, is_empty: bool) {
     if is_empty {
         out.space();
         out.word("-");
     }
 }
 
-fn add_channels(out: &mut Writer, channels: &[LiveChannel]) {
+fn add_channels(out: &mut RowWriter, channels: &[LiveChannel]) {
     for live in channels {
         out.space();
         out.number(live.frame);
@@ -72,7 +72,7 @@ fn add_channels(out: &mut Writer, channels: &[LiveChannel]) {
     add_dash(out, channels.is_empty());
 }
 
-fn add_processes(out: &mut Writer, sorts: &[usize]) {
+fn add_processes(out: &mut RowWriter, sorts: &[usize]) {
     for kind in sorts {
         out.space();
         out.number(*kind);
@@ -93,7 +93,7 @@ fn cells_of(slots: &[Slot<'_>]) -> Option<u32>
 }
 
 /// Writes a state.
-fn add_state(out: &mut Writer, store: &Store, channels: &[LiveChannel], sorts: &[usize]) {
+fn add_state(out: &mut RowWriter, store: &Store, channels: &[LiveChannel], sorts: &[usize]) {
     add_numbers(out, store.cells().as_slice());
     out.word(" / ");
     add_channels(out, channels);
@@ -102,7 +102,7 @@ fn add_state(out: &mut Writer, store: &Store, channels: &[LiveChannel], sorts: &
 }
 
 /// Writes `ok`, or the fault.
-pub fn add_outcome(ended: Result<(), Stop>, out: &mut Writer) {
+pub fn add_outcome(ended: Result<(), Stop>, out: &mut RowWriter) {
     match ended {
         Ok(()) => out.word("ok"),
         Err(stop) => add_stop(stop, out),
@@ -110,7 +110,7 @@ pub fn add_outcome(ended: Result<(), Stop>, out: &mut Writer) {
 }
 
 /// Writes the fault that a stop is, as `F2`.
-pub fn add_stop(stop: Stop, out: &mut Writer) {
+pub fn add_stop(stop: Stop, out: &mut RowWriter) {
     match stop {
         Stop::Fault(fault) => {
             out.word("F");
@@ -127,7 +127,7 @@ fn add_created(
     kind: usize,
     slots: &[Slot<'_>],
     arguments: &[i32],
-    out: &mut Writer,
+    out: &mut RowWriter,
 ) {
     let Some(most) = cells_of(slots).and_then(|cells| cells.checked_add(1)) else {
         return out.refuse("too many cells");
@@ -157,7 +157,7 @@ fn add_process(
     kind: usize,
     slots: &[Slot<'_>],
     arguments: &[i32],
-    out: &mut Writer,
+    out: &mut RowWriter,
 ) {
     match Beginnings::new(alloc, program) {
         Ok(beginnings) => add_created(alloc, &beginnings, kind, slots, arguments, out),
@@ -174,7 +174,7 @@ fn variables<'p, 'a>(program: &'p Program<'a>, kind: usize) -> Option<&'p [Slot<
 }
 
 /// Writes what there is once a process is created beside a global, as a block asks it, and how that went.
-pub fn add_creation(alloc: Global, block: Block, program: &Program<'_>, out: &mut Writer) {
+pub fn add_creation(alloc: Global, block: RowBlock, program: &Program<'_>, out: &mut RowWriter) {
     let kind = block
         .behind("proctype")
         .unwrap_or("0")
@@ -191,10 +191,10 @@ pub fn add_creation(alloc: Global, block: Block, program: &Program<'_>, out: &mu
 pub fn add_values(
     alloc: Global,
     view: ModelView,
-    block: Block,
+    block: RowBlock,
     program: &Program<'_>,
     started: Started,
-    out: &mut Writer,
+    out: &mut RowWriter,
 ) {
     let mut started = started;
     match view {

@@ -1,6 +1,6 @@
 //! Plays a row with each call of a device failing in turn.
-use crate::player::{Behind, Device, Session, played};
-use row_files::Told;
+use crate::player::{Device, Session, SessionOutcome, played};
+use row_files::RowReport;
 use std::alloc::Global;
 
 /// At most so many calls fail.
@@ -8,7 +8,12 @@ const MOST_CALLS: u64 = 10_000;
 
 /// Tells what is wrong with a session in which a device fails: it ends so, and what stands behind it begins what stands behind the
 /// whole one.
-fn tell_broken(told: &mut Told, device: Device, whole: &Behind, behind: &Behind) {
+fn tell_broken(
+    told: &mut RowReport,
+    device: Device,
+    whole: &SessionOutcome,
+    behind: &SessionOutcome,
+) {
     told.number("status", 6, usize::from(behind.end.status));
     if behind.end.cause != device.cause() {
         told.add("another cause\n");
@@ -22,7 +27,7 @@ fn tell_broken(told: &mut Told, device: Device, whole: &Behind, behind: &Behind)
 }
 
 /// Tells what is otherwise in a session with a failing device that did not fail.
-fn tell_whole(told: &mut Told, whole: &Behind, behind: &Behind) {
+fn tell_whole(told: &mut RowReport, whole: &SessionOutcome, behind: &SessionOutcome) {
     told.bytes("output without a failure", whole.out, behind.out);
     told.bytes("record without a failure", whole.rec, behind.rec);
     if behind.end != whole.end {
@@ -33,10 +38,10 @@ fn tell_whole(told: &mut Told, whole: &Behind, behind: &Behind) {
 /// Tells what is wrong where each call of a device fails in turn, until a session has no failure.
 pub fn tell_each(
     alloc: Global,
-    told: &mut Told,
+    told: &mut RowReport,
     session: &Session,
     device: Device,
-    whole: &Behind,
+    whole: &SessionOutcome,
 ) {
     for call in 0..MOST_CALLS {
         let failing = device.failing(call);

@@ -9,21 +9,21 @@ mod runner;
 mod tally;
 mod texts;
 
-use crate::row::{Entry, WORDS};
+use crate::row::{RowSource, WORDS};
 use crate::runner::tell;
-use crate::tally::Tally;
-use row_files::{Block, Pair, Refused, Told, blocks, names, text_of};
+use crate::tally::SessionTally;
+use row_files::{Pair, Refused, RowBlock, RowReport, blocks, names, text_of};
 use std::alloc::Global;
 use std::io;
 use std::process::ExitCode;
 
 // Plays a row, unless the file is refused, and tells where it does not pass.
-fn play(alloc: Global, block: Block, filling: Pair, tally: &mut Tally) {
+fn play(alloc: Global, block: RowBlock, filling: Pair, tally: &mut SessionTally) {
     if tally.is_refused() {
         return;
     }
-    let mut told = Told::new(alloc);
-    let entry = Entry {
+    let mut told = RowReport::new(alloc);
+    let entry = RowSource {
         alloc,
         block,
         filling,
@@ -33,7 +33,7 @@ fn play(alloc: Global, block: Block, filling: Pair, tally: &mut Tally) {
 }
 
 // Counts a row of which these words are told.
-fn judge(block: Block, this: &str, words: &str, tally: &mut Tally) {
+fn judge(block: RowBlock, this: &str, words: &str, tally: &mut SessionTally) {
     match block.behind("differs") {
         Some(wanted) if words.starts_with(wanted) => tally.pass(),
         Some(_) => tally.fail(block, this, "it does not differ as it should\n", words),
@@ -43,7 +43,7 @@ fn judge(block: Block, this: &str, words: &str, tally: &mut Tally) {
 }
 
 // Plays a row for each line of a part. A part without a line is refused, since no row would be played.
-fn play_each(alloc: Global, block: Block, lines: &'static str, tally: &mut Tally) {
+fn play_each(alloc: Global, block: RowBlock, lines: &'static str, tally: &mut SessionTally) {
     const WHY: &str = "a part 'each' is lines with an arrow";
     if lines.is_empty() {
         tally.refuse(block.line, WHY);
@@ -56,7 +56,7 @@ fn play_each(alloc: Global, block: Block, lines: &'static str, tally: &mut Tally
     }
 }
 
-fn play_block(alloc: Global, block: Block, tally: &mut Tally) {
+fn play_block(alloc: Global, block: RowBlock, tally: &mut SessionTally) {
     if block.has("each") {
         play_each(alloc, block, block.part("each"), tally);
     } else {
@@ -64,13 +64,13 @@ fn play_block(alloc: Global, block: Block, tally: &mut Tally) {
     }
 }
 
-fn play_blocks(alloc: Global, blocks: &[Block], tally: &mut Tally) {
+fn play_blocks(alloc: Global, blocks: &[RowBlock], tally: &mut SessionTally) {
     for block in blocks {
         play_block(alloc, *block, tally);
     }
 }
 
-fn play_text(alloc: Global, text: &'static str, tally: &mut Tally) {
+fn play_text(alloc: Global, text: &'static str, tally: &mut SessionTally) {
     match blocks(alloc, text, &WORDS) {
         Ok(blocks) => play_blocks(alloc, blocks.as_slice(), tally),
         Err(refused) => tally.refuse(refused.line, refused.why),
@@ -79,7 +79,7 @@ fn play_text(alloc: Global, text: &'static str, tally: &mut Tally) {
 
 // Plays the rows of a file, and prints how many pass. Answers whether all do: a file that is refused counts as a row that fails.
 fn file_passes(rt: &HostRuntime, file: &'static str) -> io::Result<bool> {
-    let mut tally = Tally::new(rt.alloc(), file);
+    let mut tally = SessionTally::new(rt.alloc(), file);
     match text_of(rt, file) {
         Ok(text) => play_text(rt.alloc(), text, &mut tally),
         Err(refused) => tally.refuse(refused.line, refused.why),

@@ -3,7 +3,7 @@ ghost use Rattle.std.specs.Prelude.{◌≡◌};
 
 use devices::{FailsOnce, Failures, OneByte, Sink, SliceSource, Source, ThreeDevices, VecSink};
 use pml_play::{convert, play};
-use row_files::Told;
+use row_files::RowReport;
 use session::{Cause, Conversion, End, Options};
 use std::alloc::{AllocError, Global};
 use std::marker::Brand;
@@ -34,7 +34,7 @@ pub const NEVER: Failing = Failing {
 
 impl Device {
     /// The device of this name.
-    pub fn named(name: &str, told: &mut Told) -> Device {
+    pub fn named(name: &str, told: &mut RowReport) -> Device {
         match name {
             "source" => Device::Source,
             "output" => Device::Out,
@@ -70,7 +70,7 @@ impl Device {
 
 /// What is done with a session.
 #[derive(Clone, Copy)]
-pub enum Way {
+pub enum SessionWay {
     /// It is played.
     Played,
     /// Its choices are converted: the output has those of the second version, and nothing is recorded.
@@ -80,7 +80,7 @@ pub enum Way {
 /// A session of a model, whose texts stay as long as the program runs.
 #[derive(Clone, Copy)]
 pub struct Session {
-    pub way: Way,
+    pub way: SessionWay,
     pub options: Options,
     pub model: &'static str,
     pub choices: &'static [u8],
@@ -89,7 +89,7 @@ pub struct Session {
 
 /// What stands behind a session. It stays as long as the program runs.
 #[derive(Clone, Copy)]
-pub struct Behind {
+pub struct SessionOutcome {
     pub out: &'static [u8],
     pub rec: &'static [u8],
     pub unread: usize,
@@ -149,13 +149,13 @@ fn ended<S: Source, O: Sink, P: Sink>(
 ) -> End {
     let text = session.model.as_bytes();
     match session.way {
-        Way::Played => ended_playing(alloc, text, &session.options, source, out, rec),
-        Way::Converted => ended_converting(alloc, text, &session.options, source, out),
+        SessionWay::Played => ended_playing(alloc, text, &session.options, source, out, rec),
+        SessionWay::Converted => ended_converting(alloc, text, &session.options, source, out),
     }
 }
 
 /// These bytes, as long as the program runs.
-fn lasting(alloc: Global, bytes: &[u8], told: &mut Told) -> &'static [u8] {
+fn lasting(alloc: Global, bytes: &[u8], told: &mut RowReport) -> &'static [u8] {
     match Vec::from_slice(alloc, bytes) {
         Ok(bytes) => bytes.leak(),
         Err(AllocError) => {
@@ -172,9 +172,9 @@ fn read_back<K: Ledger, L: Ledger>(
     out: &Out<K>,
     rec: &Rec<L>,
     end: End,
-    told: &mut Told,
-) -> Behind {
-    Behind {
+    told: &mut RowReport,
+) -> SessionOutcome {
+    SessionOutcome {
         out: lasting(alloc, out.device().sink.bytes(), told),
         rec: lasting(alloc, rec.device().bytes(), told),
         unread: source.device().left().len(),
@@ -188,8 +188,8 @@ fn played_with<K: Ledger, L: Ledger>(
     first: Blank,
     second: Blank,
     session: &Session,
-    told: &mut Told,
-) -> Behind
+    told: &mut RowReport,
+) -> SessionOutcome
     requires first_name { first.name ≡ K.name }
     requires first_parts { first.parts ≡ K.parts }
     requires first_one { first.parts ≡ 1 }
@@ -213,6 +213,6 @@ fn played_with<K: Ledger, L: Ledger>(
 }
 
 /// Plays a session, or converts its choices. Want of memory for what stands behind it is told.
-pub fn played(alloc: Global, session: &Session, told: &mut Told) -> Behind {
+pub fn played(alloc: Global, session: &Session, told: &mut RowReport) -> SessionOutcome {
     played_with::<Brand, Brand>(alloc, Blank::new(1), Blank::new(1), session, told)
 }

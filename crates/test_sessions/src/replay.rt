@@ -1,12 +1,12 @@
 //! Plays a session again on its record, and on its choices as they are converted.
-use crate::player::{Behind, Session, Way, played};
-use crate::row::Row;
-use row_files::{Told, Writer};
+use crate::player::{Session, SessionOutcome, SessionWay, played};
+use crate::row::SessionRow;
+use row_files::{RowReport, RowWriter};
 use session::Cause;
 use std::alloc::Global;
 
 /// What the output has behind a line `bad choice`: the first line of it is the prompt, and is left out.
-fn add_behind(kept: &mut Writer, text: &str) {
+fn add_behind(kept: &mut RowWriter, text: &str) {
     if let Some((_, lines)) = text.split_once('\n') {
         kept.word("\n");
         kept.word(lines);
@@ -14,8 +14,8 @@ fn add_behind(kept: &mut Writer, text: &str) {
 }
 
 /// The output without the lines `bad choice` and the prompts behind them.
-fn without_bad_lines(alloc: Global, out: &str) -> Writer {
-    let mut kept = Writer::new(alloc);
+fn without_bad_lines(alloc: Global, out: &str) -> RowWriter {
+    let mut kept = RowWriter::new(alloc);
     let mut begun = false;
     for text in out.split("\nbad choice\n") {
         if begun {
@@ -37,7 +37,12 @@ fn is_cut_short(cause: &Cause) -> bool {
 }
 
 /// Tells where the output of a replay is another one than that of the session, without its bad lines.
-fn tell_output(alloc: Global, told: &mut Told, before: &Behind, again: &Behind) {
+fn tell_output(
+    alloc: Global,
+    told: &mut RowReport,
+    before: &SessionOutcome,
+    again: &SessionOutcome,
+) {
     match str::from_utf8(before.out) {
         Ok(out) => {
             let wanted = without_bad_lines(alloc, out);
@@ -48,7 +53,7 @@ fn tell_output(alloc: Global, told: &mut Told, before: &Behind, again: &Behind) 
 }
 
 /// Tells where the end of a replay is another one than it should be.
-fn tell_end(alloc: Global, told: &mut Told, before: &Behind, again: &Behind) {
+fn tell_end(alloc: Global, told: &mut RowReport, before: &SessionOutcome, again: &SessionOutcome) {
     let (then, now) = (&before.end, &again.end);
     if is_cut_short(&then.cause) {
         let ended = now.cause == Cause::ChoicesEnded;
@@ -65,7 +70,12 @@ fn tell_end(alloc: Global, told: &mut Told, before: &Behind, again: &Behind) {
 }
 
 /// Tells what a session on the record of another has otherwise.
-fn tell_replay(alloc: Global, told: &mut Told, before: &Behind, again: &Behind) {
+fn tell_replay(
+    alloc: Global,
+    told: &mut RowReport,
+    before: &SessionOutcome,
+    again: &SessionOutcome,
+) {
     let (then, now) = (before.end.steps, again.end.steps);
     told.bytes("record of the replay", before.rec, again.rec);
     told.number("rest that the replay leaves unread", 0, again.unread);
@@ -74,7 +84,7 @@ fn tell_replay(alloc: Global, told: &mut Told, before: &Behind, again: &Behind) 
 }
 
 /// Tells what a session on converted choices has otherwise than the one on the record.
-fn tell_second(told: &mut Told, first: &Behind, second: &Behind) {
+fn tell_second(told: &mut RowReport, first: &SessionOutcome, second: &SessionOutcome) {
     let (then, now) = (&first.end, &second.end);
     told.bytes("output on the converted choices", first.out, second.out);
     told.bytes("record of the converted choices", first.rec, second.rec);
@@ -92,7 +102,13 @@ fn tell_second(told: &mut Told, first: &Behind, second: &Behind) {
 }
 
 /// The session of a row on these choices, played or converted.
-fn again(alloc: Global, told: &mut Told, row: &Row, way: Way, choices: &'static [u8]) -> Behind {
+fn again(
+    alloc: Global,
+    told: &mut RowReport,
+    row: &SessionRow,
+    way: SessionWay,
+    choices: &'static [u8],
+) -> SessionOutcome {
     let session = Session {
         way,
         choices,
@@ -102,15 +118,15 @@ fn again(alloc: Global, told: &mut Told, row: &Row, way: Way, choices: &'static 
 }
 
 /// Tells what is otherwise where a row is played again on its record, and on its choices as they are converted to the second version.
-pub fn tell_again(alloc: Global, told: &mut Told, row: &Row, before: &Behind) {
-    let first = again(alloc, told, row, Way::Played, row.record);
+pub fn tell_again(alloc: Global, told: &mut RowReport, row: &SessionRow, before: &SessionOutcome) {
+    let first = again(alloc, told, row, SessionWay::Played, row.record);
     tell_replay(alloc, told, before, &first);
-    let second = again(alloc, told, row, Way::Converted, row.session.choices);
+    let second = again(alloc, told, row, SessionWay::Converted, row.session.choices);
     told.number(
         "status of the conversion",
         row.status,
         usize::from(second.end.status),
     );
-    let third = again(alloc, told, row, Way::Played, second.out);
+    let third = again(alloc, told, row, SessionWay::Played, second.out);
     tell_second(told, &first, &third);
 }

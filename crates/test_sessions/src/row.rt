@@ -1,7 +1,7 @@
 //! What a row says: a session, and what stands behind it.
-use crate::player::{Device, Failing, NEVER, Session, Way};
+use crate::player::{Device, Failing, NEVER, Session, SessionWay};
 use crate::texts::{MOST, filled, kept, number, unescaped};
-use row_files::{Block, Pair, Told, Writer};
+use row_files::{Pair, RowBlock, RowReport, RowWriter};
 use session::Options;
 use std::alloc::{AllocError, Global};
 
@@ -24,7 +24,7 @@ pub enum Fails {
 
 /// A session, and what stands behind it. Its texts stay as long as the program runs.
 #[derive(Clone, Copy)]
-pub struct Row {
+pub struct SessionRow {
     pub session: Session,
     pub fails: Fails,
     /// How many bytes of the choices are read.
@@ -39,9 +39,9 @@ pub struct Row {
 
 /// What a row is read from: a block, in which `@this` and `@that` stand for these.
 #[derive(Clone, Copy)]
-pub struct Entry {
+pub struct RowSource {
     pub alloc: Global,
-    pub block: Block,
+    pub block: RowBlock,
     pub filling: Pair,
 }
 
@@ -55,7 +55,7 @@ const NONE: Options = Options {
 };
 
 /// Adds what letters ask for.
-fn add_letters(options: &mut Options, letters: &str, told: &mut Told) {
+fn add_letters(options: &mut Options, letters: &str, told: &mut RowReport) {
     for letter in letters.bytes() {
         match letter {
             b'p' => options.steps = true,
@@ -69,13 +69,13 @@ fn add_letters(options: &mut Options, letters: &str, told: &mut Told) {
 }
 
 /// Adds a limit, and what the letters before it ask for.
-fn add_limit(options: &mut Options, letters: &str, digits: &str, told: &mut Told) {
+fn add_limit(options: &mut Options, letters: &str, digits: &str, told: &mut RowReport) {
     options.limit = u32::try_from(number(digits, MOST, told)).unwrap_or(0);
     add_letters(options, letters, told);
 }
 
 /// Adds what a word asks for, as `-pg` or `-u7`.
-fn add_word(options: &mut Options, word: &str, told: &mut Told) {
+fn add_word(options: &mut Options, word: &str, told: &mut RowReport) {
     let Some(letters) = word.strip_prefix('-') else {
         return told.refuse("a flag begins with -");
     };
@@ -86,7 +86,7 @@ fn add_word(options: &mut Options, word: &str, told: &mut Told) {
 }
 
 /// The options that flags ask for.
-fn options(flags: Option<&str>, told: &mut Told) -> Options {
+fn options(flags: Option<&str>, told: &mut RowReport) -> Options {
     let mut options = NONE;
     if let Some(flags) = flags {
         for word in flags.split(' ') {
@@ -97,7 +97,7 @@ fn options(flags: Option<&str>, told: &mut Told) -> Options {
 }
 
 /// Which calls fail: words name the device, and perhaps the call of it.
-fn failures(words: Option<&str>, told: &mut Told) -> Fails {
+fn failures(words: Option<&str>, told: &mut RowReport) -> Fails {
     let Some(words) = words else {
         return Fails::Nothing;
     };
@@ -121,7 +121,7 @@ impl Fails {
 }
 
 /// The exit status that is wanted.
-fn status(digits: Option<&str>, told: &mut Told) -> usize {
+fn status(digits: Option<&str>, told: &mut RowReport) -> usize {
     match digits {
         Some(digits) => number(digits, 255, told),
         None => {
@@ -132,16 +132,16 @@ fn status(digits: Option<&str>, told: &mut Told) -> usize {
 }
 
 /// How many steps are taken, where that is said.
-fn steps(digits: Option<&str>, told: &mut Told) -> Option<usize> {
+fn steps(digits: Option<&str>, told: &mut RowReport) -> Option<usize> {
     match digits {
         Some(digits) => Some(number(digits, MOST, told)),
         None => None,
     }
 }
 
-impl Entry {
+impl RowSource {
     /// What a text says that the block shows.
-    fn text(self, shown: Result<String, AllocError>, told: &mut Told) -> &'static str {
+    fn text(self, shown: Result<String, AllocError>, told: &mut RowReport) -> &'static str {
         match shown {
             Ok(text) => filled(self.alloc, &text, self.filling, told),
             Err(AllocError) => {
@@ -152,7 +152,7 @@ impl Entry {
     }
 
     /// What a part writes, in which nothing stands for `@that`.
-    fn written(self, word: &str, told: &mut Told) -> &'static str {
+    fn written(self, word: &str, told: &mut RowReport) -> &'static str {
         let text = self.block.behind(word).unwrap_or("");
         let filling = Pair {
             that: "",
@@ -162,7 +162,7 @@ impl Entry {
     }
 
     /// The choices that are not read.
-    fn unread(self, told: &mut Told) -> &'static str {
+    fn unread(self, told: &mut RowReport) -> &'static str {
         if self.block.has("choices") || self.block.has("unread") {
             self.written("unread", told)
         } else {
@@ -171,21 +171,21 @@ impl Entry {
     }
 
     /// The choices, and how many bytes of them are read.
-    fn choices(self, told: &mut Told) -> (&'static [u8], usize) {
+    fn choices(self, told: &mut RowReport) -> (&'static [u8], usize) {
         let read = self.written("choices", told);
         let unread = self.unread(told);
-        let mut choices = Writer::new(self.alloc);
+        let mut choices = RowWriter::new(self.alloc);
         choices.word(read);
         choices.word(unread);
         (kept(choices, told).as_bytes(), read.len())
     }
 
     /// The session, and how many bytes of its choices are read.
-    fn session(self, failing: Failing, told: &mut Told) -> (Session, usize) {
+    fn session(self, failing: Failing, told: &mut RowReport) -> (Session, usize) {
         let options = options(self.block.behind("flags"), told);
         let (choices, read) = self.choices(told);
         let session = Session {
-            way: Way::Played,
+            way: SessionWay::Played,
             options,
             model: self.text(self.block.text(self.alloc, "model"), told),
             choices,
@@ -195,7 +195,7 @@ impl Entry {
     }
 
     /// The row. Why it is none is told.
-    pub fn row(self, told: &mut Told) -> Row {
+    pub fn row(self, told: &mut RowReport) -> SessionRow {
         let block = self.block;
         if !block.has("model") || !block.has("output") {
             told.refuse("a row has a model and an output");
@@ -205,7 +205,7 @@ impl Entry {
         let steps = steps(block.behind("steps"), told);
         let fails = failures(block.behind("failing"), told);
         let (session, read) = self.session(fails.failing(), told);
-        Row {
+        SessionRow {
             session,
             fails,
             read,

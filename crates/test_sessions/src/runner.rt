@@ -1,10 +1,10 @@
 //! Plays a row, and compares what stands behind it with what it says.
 use crate::failing::tell_each;
-use crate::player::{Behind, played};
+use crate::player::{SessionOutcome, played};
 use crate::replay::tell_again;
-use crate::row::{Entry, Fails, Row, WORDS};
+use crate::row::{Fails, RowSource, SessionRow, WORDS};
 use crate::texts::{kept, unescaped};
-use row_files::{Refused, Told, Writer, blocks};
+use row_files::{Refused, RowReport, RowWriter, blocks};
 use session::{Cause, End};
 use std::alloc::Global;
 
@@ -24,8 +24,8 @@ fn words_of(cause: &Cause) -> Option<&'static str> {
 }
 
 /// What the output of a session with this end says of it.
-fn said(alloc: Global, told: &mut Told, end: &End) -> &'static str {
-    let mut out = Writer::new(alloc);
+fn said(alloc: Global, told: &mut RowReport, end: &End) -> &'static str {
+    let mut out = RowWriter::new(alloc);
     match words_of(&end.cause) {
         Some(words) => {
             out.word(words);
@@ -39,7 +39,7 @@ fn said(alloc: Global, told: &mut Told, end: &End) -> &'static str {
 }
 
 /// Writes what the output says of an end where it does not say the number of steps behind it.
-fn say_other(out: &mut Writer, end: &End) {
+fn say_other(out: &mut RowWriter, end: &End) {
     match end.cause {
         Cause::Fault(_) => {
             out.word("): step ");
@@ -63,7 +63,7 @@ fn line_of(end: &End) -> u32 {
 }
 
 /// Tells where a session ends for another cause than its row says: in its output, or by the device that fails.
-fn tell_end(alloc: Global, told: &mut Told, row: &Row, end: &End) {
+fn tell_end(alloc: Global, told: &mut RowReport, row: &SessionRow, end: &End) {
     let said = said(alloc, told, end);
     if let Fails::Once(device, _) = row.fails {
         if end.cause != device.cause() {
@@ -75,7 +75,7 @@ fn tell_end(alloc: Global, told: &mut Told, row: &Row, end: &End) {
 }
 
 /// Tells what a session has otherwise than its row.
-fn tell_behind(told: &mut Told, row: &Row, behind: &Behind) {
+fn tell_behind(told: &mut RowReport, row: &SessionRow, behind: &SessionOutcome) {
     let end = &behind.end;
     let read = row.session.choices.len().saturating_sub(behind.unread);
     told.bytes("output", row.output.as_bytes(), behind.out);
@@ -89,7 +89,7 @@ fn tell_behind(told: &mut Told, row: &Row, behind: &Behind) {
 }
 
 /// Tells what is otherwise where a row is played again: with failing devices, or from its record.
-fn tell_rest(alloc: Global, told: &mut Told, row: &Row, behind: &Behind) {
+fn tell_rest(alloc: Global, told: &mut RowReport, row: &SessionRow, behind: &SessionOutcome) {
     match row.fails {
         Fails::Once(_, _) => {}
         Fails::InTurn(device) => tell_each(alloc, told, &row.session, device, behind),
@@ -99,7 +99,7 @@ fn tell_rest(alloc: Global, told: &mut Told, row: &Row, behind: &Behind) {
 }
 
 /// Tells what is otherwise than a row says.
-fn tell_row(alloc: Global, told: &mut Told, row: &Row) {
+fn tell_row(alloc: Global, told: &mut RowReport, row: &SessionRow) {
     let behind = played(alloc, &row.session, told);
     tell_behind(told, row, &behind);
     tell_end(alloc, told, row, &behind.end);
@@ -107,7 +107,7 @@ fn tell_row(alloc: Global, told: &mut Told, row: &Row) {
 }
 
 /// Tells where a text of rows is not refused with these words.
-fn tell_file(alloc: Global, told: &mut Told, text: &'static str, wanted: &str) {
+fn tell_file(alloc: Global, told: &mut RowReport, text: &'static str, wanted: &str) {
     match blocks(alloc, text, &WORDS) {
         Ok(_) => told.add("it is not refused\n"),
         Err(refused) => tell_refusal(alloc, told, refused, wanted),
@@ -115,8 +115,8 @@ fn tell_file(alloc: Global, told: &mut Told, text: &'static str, wanted: &str) {
 }
 
 /// Tells where a refusal is another one.
-fn tell_refusal(alloc: Global, told: &mut Told, refused: Refused, wanted: &str) {
-    let mut came = Writer::new(alloc);
+fn tell_refusal(alloc: Global, told: &mut RowReport, refused: Refused, wanted: &str) {
+    let mut came = RowWriter::new(alloc);
     came.word("line ");
     came.count(refused.line);
     came.word(": ");
@@ -125,7 +125,7 @@ fn tell_refusal(alloc: Global, told: &mut Told, refused: Refused, wanted: &str) 
 }
 
 /// Tells what is otherwise than a block says. One that is no row is told of too.
-pub fn tell(entry: Entry, told: &mut Told) {
+pub fn tell(entry: RowSource, told: &mut RowReport) {
     if let Some(wanted) = entry.block.behind("refused") {
         let text = entry.block.behind("file").unwrap_or("");
         let text = unescaped(entry.alloc, text, told);

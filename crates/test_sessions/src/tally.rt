@@ -1,29 +1,29 @@
 //! How many rows of a file pass, and what is told of the others.
-use row_files::{Block, Told};
+use row_files::{RowBlock, RowReport};
 use std::alloc::Global;
 use std::io;
 
 /// The rows of a file.
 #[derive(Drop)]
-pub struct Tally {
+pub struct SessionTally {
     file: &'static str,
     passed: u32,
     /// Whether each row passes so far.
     passes: bool,
     /// Whether the file is refused: then no more of its rows are played.
     refused: bool,
-    told: Told,
+    told: RowReport,
 }
 
-impl Tally {
+impl SessionTally {
     /// No row is played yet.
-    pub fn new(alloc: Global, file: &'static str) -> Tally {
-        Tally {
+    pub fn new(alloc: Global, file: &'static str) -> SessionTally {
+        SessionTally {
             file,
             passed: 0,
             passes: true,
             refused: false,
-            told: Told::new(alloc),
+            told: RowReport::new(alloc),
         }
     }
 
@@ -46,7 +46,7 @@ impl Tally {
     }
 
     /// A row, in which this stands for `@this`, does not pass.
-    pub fn fail(&mut self, block: Block, this: &str, wrong: &str, words: &str) {
+    pub fn fail(&mut self, block: RowBlock, this: &str, wrong: &str, words: &str) {
         self.tell_line(block.line);
         self.told.add("row '");
         self.told.add(block.name());

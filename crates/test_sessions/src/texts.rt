@@ -1,12 +1,12 @@
 //! What is written in a part for other text. What is wrong with it is told.
-use row_files::{Pair, Told, Writer};
+use row_files::{Pair, RowReport, RowWriter};
 use std::alloc::{AllocError, Global};
 
 /// The greatest number of 32 bits.
 pub const MOST: usize = 4_294_967_295;
 
 /// What is written, as long as the program runs.
-pub fn kept(out: Writer, told: &mut Told) -> &'static str {
+pub fn kept(out: RowWriter, told: &mut RowReport) -> &'static str {
     match out.finish() {
         Ok(text) => text,
         Err(refused) => {
@@ -17,7 +17,7 @@ pub fn kept(out: Writer, told: &mut Told) -> &'static str {
 }
 
 /// The number that digits write, which is at most this.
-pub fn number(digits: &str, most: usize, told: &mut Told) -> usize {
+pub fn number(digits: &str, most: usize, told: &mut RowReport) -> usize {
     match digits.parse::<usize>() {
         Ok(number) if number <= most => number,
         _ => {
@@ -28,7 +28,7 @@ pub fn number(digits: &str, most: usize, told: &mut Told) -> usize {
 }
 
 /// Writes the sign that is written as a backslash and this one.
-fn write_escaped(letter: char, out: &mut Writer, told: &mut Told) {
+fn write_escaped(letter: char, out: &mut RowWriter, told: &mut RowReport) {
     match letter {
         'n' => out.sign('\n'),
         't' => out.sign('\t'),
@@ -40,8 +40,8 @@ fn write_escaped(letter: char, out: &mut Writer, told: &mut Told) {
 }
 
 /// What a text with escapes writes, as long as the program runs.
-pub fn unescaped(alloc: Global, text: &str, told: &mut Told) -> &'static str {
-    let mut out = Writer::new(alloc);
+pub fn unescaped(alloc: Global, text: &str, told: &mut RowReport) -> &'static str {
+    let mut out = RowWriter::new(alloc);
     let mut behind = false;
     for letter in text.chars() {
         if behind {
@@ -66,8 +66,8 @@ fn replaced(
 }
 
 /// A text in which `@this` and `@that` stand for these, with all its pieces, as long as the program runs.
-pub fn filled(alloc: Global, text: &str, filling: Pair, told: &mut Told) -> &'static str {
-    let mut out = Writer::new(alloc);
+pub fn filled(alloc: Global, text: &str, filling: Pair, told: &mut RowReport) -> &'static str {
+    let mut out = RowWriter::new(alloc);
     match replaced(
         alloc,
         text,
@@ -81,7 +81,7 @@ pub fn filled(alloc: Global, text: &str, filling: Pair, told: &mut Told) -> &'st
 }
 
 /// Writes a text in which `@(COUNT PIECE@)` stands for the piece, so many times.
-fn write_repeated(alloc: Global, text: &str, out: &mut Writer, told: &mut Told) {
+fn write_repeated(alloc: Global, text: &str, out: &mut RowWriter, told: &mut RowReport) {
     let mut begun = false;
     for part in text.split("@(") {
         if begun {
@@ -94,7 +94,7 @@ fn write_repeated(alloc: Global, text: &str, out: &mut Writer, told: &mut Told) 
 }
 
 /// Writes a piece as often as the number before it says, and what stands behind its end.
-fn write_pieces(alloc: Global, part: &str, out: &mut Writer, told: &mut Told) {
+fn write_pieces(alloc: Global, part: &str, out: &mut RowWriter, told: &mut RowReport) {
     let Some((count, rest)) = part.split_once(' ') else {
         return told.refuse("a number stands before a piece");
     };
@@ -108,13 +108,13 @@ fn write_pieces(alloc: Global, part: &str, out: &mut Writer, told: &mut Told) {
 }
 
 /// Writes a piece, in which `#` stands for its number, counted from 0, and `##` for the next one.
-fn write_piece(alloc: Global, piece: &str, number: usize, out: &mut Writer) {
+fn write_piece(alloc: Global, piece: &str, number: usize, out: &mut RowWriter) {
     if !piece.contains('#') {
         return out.word(piece);
     }
-    let mut own = Writer::new(alloc);
+    let mut own = RowWriter::new(alloc);
     own.number(number);
-    let mut next = Writer::new(alloc);
+    let mut next = RowWriter::new(alloc);
     next.number(number.saturating_add(1));
     match replaced(alloc, piece, ("##", next.text()), ("#", own.text())) {
         Ok(text) => out.word(&text),

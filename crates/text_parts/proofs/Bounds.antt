@@ -1,7 +1,7 @@
 -- How long a line is, and how far into it a column reaches.
 use Rattle.std.proofs.Common.{◌≡◌, ◌≤◌, ℕ, zero, suc, ◌+◌, ◌-◌, Bool, true, false, cond, nat_eq, ◌&&◌, List, [], ◌∷◌, length, drop, refl, arith}
 use Rattle.source_lines.specs.Places.{is_return, is_line_feed, trimmed, kept_before, up_to_feed}
-use Rattle.text_parts.specs.declared.places.Unit.{Unit}
+use Rattle.text_parts.specs.declared.places.ColumnUnit.{ColumnUnit}
 use Rattle.text_parts.specs.Columns.{begins_character}
 use Rattle.text_parts.specs.Offsets.{units_in, start_of, reach}
 
@@ -42,7 +42,7 @@ start_bound n [] = omega arith
 start_bound n (b ∷ bs) =
     let h = step_bound (nat_eq n 0) (start_of (cond (is_line_feed b) (n - 1) n) bs) (length bs) (start_bound (cond (is_line_feed b) (n - 1) n) bs) in omega (arith, h)
 
-pub reach_bound : (u : Unit) (n : ℕ) (bs : List ℕ) → reach u n bs ≤ length bs
+pub reach_bound : (u : ColumnUnit) (n : ℕ) (bs : List ℕ) → reach u n bs ≤ length bs
 reach_bound u n [] = omega arith
 reach_bound u n (b ∷ bs) =
     let h = step_bound (nat_eq n 0 && begins_character b) (reach u (n - units_in u b) bs) (length bs) (reach_bound u (n - units_in u b) bs) in omega (arith, h)

@@ -5,7 +5,7 @@ use Rattle.std.proofs.lemmas.Bool.Decides.{nat_tests}
 use Rattle.pml_token.specs.declared.token.Kind.{Kind}
 use Rattle.pml_token.specs.declared.token.Kind.TheVariants as kind
 use Rattle.pml_token.specs.Word.{same_kind, Word}
-use Rattle.text_parts.specs.declared.calls.Call.{Call}
+use Rattle.text_parts.specs.declared.calls.PartialCall.{PartialCall}
 use Rattle.text_parts.specs.declared.calls.Back.{Back}
 use Rattle.text_parts.specs.declared.calls.Back.TheVariants.{Within, Opened, Named, Called, Outside}
 use Rattle.text_parts.specs.Calls.{opens, closes, ends, outside, within, run_of, next, read, called}
@@ -83,7 +83,7 @@ arguments_read n ws (closed {w = w} {xs = ys} {ws = zs} v no_closer opener inner
     ∙ opens_one 0 n w.kind no_closer opener
 
 -- a call that is read stays, whatever stands before it
-stands : (front ws : List Word) (c : Call) → read ws ≡ Called c → read (front ++ ws) ≡ Called c
+stands : (front ws : List Word) (c : PartialCall) → read ws ≡ Called c → read (front ++ ws) ≡ Called c
 stands [] ws c h = h
 stands (w ∷ front) ws c h = ap (λ (b : Back). next b w) (stands front ws c h)
 

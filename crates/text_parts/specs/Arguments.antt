@@ -2,7 +2,7 @@
 use Rattle.std.specs.Prelude.{◌≡◌, ℕ, ◌+◌, true, false, List, [], ◌∷◌, ◌++◌, length, Some}
 use Rattle.pml_token.specs.declared.token.Kind.TheVariants as kind
 use Rattle.pml_token.specs.Word.{same_kind, Word}
-use Rattle.text_parts.specs.declared.calls.Call.{Call}
+use Rattle.text_parts.specs.declared.calls.PartialCall.{PartialCall}
 use Rattle.text_parts.specs.Calls.{opens, closes, ends, call_around}
 
 -- Each of the tokens that opens a bracket is closed by one behind it, and each that closes one closes such a one.
@@ -22,7 +22,7 @@ pub data AreArguments : ℕ → List Word → Type 0 where
       → AreArguments n ws → AreArguments n (w ∷ (xs ++ v ∷ ws))
 
 -- the call of a name: by `run`, if that stands before it
-abbrev pub call_of : Word → Word → ℕ → Call
+abbrev pub call_of : Word → Word → ℕ → PartialCall
 call_of head name n = record { at = name.line; length = length name.text; is_run = same_kind head.kind kind.Run; commas = n }
 
 -- A name, a `(` and arguments are found as the call of that name, behind any token but the word of a definition.

@@ -5,7 +5,7 @@ use Rattle.std.specs.Option.{option_or}
 use Rattle.pml_token.specs.declared.token.Kind.{Kind}
 use Rattle.pml_token.specs.declared.token.Kind.TheVariants as kind
 use Rattle.pml_token.specs.Word.{same_kind, Word}
-use Rattle.text_parts.specs.declared.bodies.Body.{Body}
+use Rattle.text_parts.specs.declared.bodies.ProcessBody.{ProcessBody}
 use Rattle.text_parts.specs.declared.bodies.Stand.{Stand}
 use Rattle.text_parts.specs.declared.bodies.Stand.TheVariants.{Outside, Headed, Within}
 
@@ -40,11 +40,11 @@ next Outside w = outside Outside w.kind
 next Headed w = if same_kind w.kind kind.OpenBrace then Within w.line 1 else outside Headed w.kind
 next (Within b n) w = within b n w.kind
 
-abbrev pub body : ℕ → ℕ → ℕ → Body
+abbrev pub body : ℕ → ℕ → ℕ → ProcessBody
 body b l e = record { brace = b; last = l; end = e }
 
 -- the body that ends with a token
-abbrev pub ended : Stand → Word → Option Body
+abbrev pub ended : Stand → Word → Option ProcessBody
 ended Outside w = None
 ended Headed w = None
 ended (Within b n) w =
@@ -53,17 +53,17 @@ ended (Within b n) w =
     else None
 
 -- the body that ends with a text of so many bytes
-abbrev pub left : Stand → ℕ → Option Body
+abbrev pub left : Stand → ℕ → Option ProcessBody
 left Outside n = None
 left Headed n = None
 left (Within b d) n = Some (body b n n)
 
 -- a body in which a place lies
-abbrev pub held : ℕ → Option Body → Option Body
+abbrev pub held : ℕ → Option ProcessBody → Option ProcessBody
 held at None = None
 held at (Some b) = if nat_le b.brace at && nat_le at b.last then Some b else None
 
 -- the first one of a text of so many bytes
-abbrev pub body_at : ℕ → ℕ → Stand → List Word → Option Body
+abbrev pub body_at : ℕ → ℕ → Stand → List Word → Option ProcessBody
 body_at at n s [] = held at (left s n)
 body_at at n s (w ∷ ws) = option_or (held at (ended s w)) (body_at at n (next s w) ws)

@@ -3,7 +3,7 @@ use Rattle.std.specs.Prelude.{ℕ, ◌+◌, ◌-◌, nat_eq, Bool, true, false, 
 use Rattle.pml_token.specs.declared.token.Kind.{Kind}
 use Rattle.pml_token.specs.declared.token.Kind.TheVariants as kind
 use Rattle.pml_token.specs.Word.{same_kind, Word}
-use Rattle.text_parts.specs.declared.calls.Call.{Call}
+use Rattle.text_parts.specs.declared.calls.PartialCall.{PartialCall}
 use Rattle.text_parts.specs.declared.calls.Back.{Back}
 use Rattle.text_parts.specs.declared.calls.Back.TheVariants.{Within, Opened, Named, Called, Outside}
 
@@ -51,11 +51,11 @@ named n w =
     if same_kind w.kind kind.Name then Named (record { at = w.line; length = length w.text; is_run = false; commas = n })
     else within 0 0 w.kind
 
-abbrev pub run_of : Call → Call
+abbrev pub run_of : PartialCall → PartialCall
 run_of c = record { at = c.at; length = c.length; is_run = true; commas = c.commas }
 
 -- before the token in front of a name with a `(`: the heading of a definition is no call
-abbrev pub headed : Call → Kind → Back
+abbrev pub headed : PartialCall → Kind → Back
 headed c k =
     if same_kind k kind.Run then Called (run_of c)
     else if same_kind k kind.Proctype || same_kind k kind.Inline then Outside
@@ -74,10 +74,10 @@ abbrev pub read : List Word → Back
 read [] = Within 0 0
 read (w ∷ ws) = next (read ws) w
 
-abbrev pub called : Back → Option Call
+abbrev pub called : Back → Option PartialCall
 called (Called c) = Some c
 called b = None
 
 -- The innermost call whose `(` stands among these tokens and is not closed there.
-abbrev pub call_around : List Word → Option Call
+abbrev pub call_around : List Word → Option PartialCall
 call_around ws = called (read ws)

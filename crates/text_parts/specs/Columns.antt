@@ -1,8 +1,8 @@
 -- Columns as editors count them: in bytes, or in units of UTF-16.
 use Rattle.std.specs.Prelude.{ℕ, ◌+◌, ◌-◌, Bool, not, nat_lt, ◌&&◌, List, length, take, drop, count_by}
 use Rattle.source_lines.specs.Places.{start_at}
-use Rattle.text_parts.specs.declared.places.Unit.{Unit}
-use Rattle.text_parts.specs.declared.places.Unit.TheVariants.{Utf8, Utf16}
+use Rattle.text_parts.specs.declared.places.ColumnUnit.{ColumnUnit}
+use Rattle.text_parts.specs.declared.places.ColumnUnit.TheVariants.{Utf8, Utf16}
 
 -- a byte with which a character of UTF-8 begins
 abbrev pub begins_character : ℕ → Bool
@@ -13,7 +13,7 @@ abbrev pub begins_pair : ℕ → Bool
 begins_pair b = nat_lt 239 b
 
 -- how many units bytes have
-abbrev pub units : Unit → List ℕ → ℕ
+abbrev pub units : ColumnUnit → List ℕ → ℕ
 units Utf8 bytes = length bytes
 units Utf16 bytes = count_by begins_character bytes + count_by begins_pair bytes
 

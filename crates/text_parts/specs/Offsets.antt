@@ -1,13 +1,13 @@
 -- The place in a text that an editor's line and column name.
 use Rattle.std.specs.Prelude.{ℕ, zero, suc, ◌+◌, ◌-◌, nat_eq, ◌&&◌, if◌then◌else◌, List, [], ◌∷◌, drop}
 use Rattle.source_lines.specs.Places.{is_line_feed, is_return, trimmed, up_to_feed}
-use Rattle.text_parts.specs.declared.places.Unit.{Unit}
-use Rattle.text_parts.specs.declared.places.Unit.TheVariants.{Utf8, Utf16}
-use Rattle.text_parts.specs.declared.places.Place.{Place}
+use Rattle.text_parts.specs.declared.places.ColumnUnit.{ColumnUnit}
+use Rattle.text_parts.specs.declared.places.ColumnUnit.TheVariants.{Utf8, Utf16}
+use Rattle.text_parts.specs.declared.places.EditorPlace.{EditorPlace}
 use Rattle.text_parts.specs.Columns.{begins_character, begins_pair}
 
 -- how many units a byte counts
-abbrev pub units_in : Unit → ℕ → ℕ
+abbrev pub units_in : ColumnUnit → ℕ → ℕ
 units_in Utf8 b = 1
 units_in Utf16 b = (if begins_character b then 1 else 0) + (if begins_pair b then 1 else 0)
 
@@ -17,7 +17,7 @@ start_of n [] = 0
 start_of n (b ∷ bs) = if nat_eq n 0 then 0 else 1 + start_of (if is_line_feed b then n - 1 else n) bs
 
 -- how many bytes stand before the first character that so many units do not reach
-abbrev pub reach : Unit → ℕ → List ℕ → ℕ
+abbrev pub reach : ColumnUnit → ℕ → List ℕ → ℕ
 reach u n [] = 0
 reach u n (b ∷ bs) = if nat_eq n 0 && begins_character b then 0 else 1 + reach u (n - units_in u b) bs
 
@@ -26,5 +26,5 @@ abbrev pub line_from : List ℕ → ℕ → List ℕ
 line_from text start = trimmed is_return (up_to_feed (drop start text))
 
 -- how many bytes stand before a place
-abbrev pub offset_of : Unit → Place → List ℕ → ℕ
+abbrev pub offset_of : ColumnUnit → EditorPlace → List ℕ → ℕ
 offset_of u p text = start_of p.line text + reach u p.column (line_from text (start_of p.line text))

@@ -8,7 +8,7 @@ use pml_token::token::{Kind, Token, same_kind};
 
 /// The body of a process, by how many bytes stand before its parts.
 #[derive(Clone, Copy, Debug, PartialEq, Eq)]
-pub struct Body {
+pub struct ProcessBody {
     /// The brace that opens it.
     pub brace: u32,
     /// The last place of it: the brace that closes it, or what stands behind it where none does.
@@ -104,20 +104,20 @@ fn next(stand: Stand, token: &Token<'_>) -> Stand
 }
 
 /// The body that ends with a token: with the brace that closes it, or before a word that stands in none.
-fn ended(stand: Stand, token: &Token<'_>) -> Option<Body>
+fn ended(stand: Stand, token: &Token<'_>) -> Option<ProcessBody>
     ensures { result ≡ ended stand token.now }
 {
     let at = token.line() as usize;
     match stand {
         Stand::Within(brace, depth) => {
             if same_kind(token.kind(), Kind::CloseBrace) && depth < 2 {
-                Some(Body {
+                Some(ProcessBody {
                     brace,
                     last: at,
                     end: at + 1,
                 })
             } else if begins_unit(token.kind()) {
-                Some(Body {
+                Some(ProcessBody {
                     brace,
                     last: at,
                     end: at,
@@ -131,11 +131,11 @@ fn ended(stand: Stand, token: &Token<'_>) -> Option<Body>
 }
 
 /// The body that ends with the text.
-fn left(stand: Stand, length: usize) -> Option<Body>
+fn left(stand: Stand, length: usize) -> Option<ProcessBody>
     ensures { result ≡ left stand length }
 {
     match stand {
-        Stand::Within(brace, _) => Some(Body {
+        Stand::Within(brace, _) => Some(ProcessBody {
             brace,
             last: length,
             end: length,
@@ -145,7 +145,7 @@ fn left(stand: Stand, length: usize) -> Option<Body>
 }
 
 /// The body, if there is one and a place lies in it.
-fn held(body: Option<Body>, offset: usize) -> Option<Body>
+fn held(body: Option<ProcessBody>, offset: usize) -> Option<ProcessBody>
     ensures { result ≡ held offset body }
 {
     match body {
@@ -161,7 +161,7 @@ fn held(body: Option<Body>, offset: usize) -> Option<Body>
 }
 
 /// The first body of a text of so many bytes in which a place lies.
-pub fn body_at(tokens: &[Token<'_>], length: usize, offset: usize) -> Option<Body>
+pub fn body_at(tokens: &[Token<'_>], length: usize, offset: usize) -> Option<ProcessBody>
     ensures { result ≡ body_at offset length Outside tokens.now }
 {
     let mut stand = Stand::Outside;

@@ -7,7 +7,7 @@ use pml_token::token::{Kind, Token, same_kind};
 
 /// A call, up to a place among its arguments.
 #[derive(Clone, Copy, Debug, PartialEq, Eq)]
-pub struct Call {
+pub struct PartialCall {
     /// How many bytes stand before the name that is called.
     pub at: usize,
     pub length: usize,
@@ -25,9 +25,9 @@ pub enum Back {
     /// What stands before a `(`, behind which so many commas were read.
     Opened(usize),
     /// What stands before a name with a `(` behind it.
-    Named(Call),
+    Named(PartialCall),
     /// Nothing more: this is the call.
-    Called(Call),
+    Called(PartialCall),
     /// Nothing more: there is no call.
     Outside,
 }
@@ -103,7 +103,7 @@ fn named(commas: usize, token: &Token<'_>) -> Back
     ensures few { counted result ≤ 1 }
 {
     if same_kind(token.kind(), Kind::Name) {
-        Back::Named(Call {
+        Back::Named(PartialCall {
             at: token.line() as usize,
             length: token.text().len(),
             is_run: false,
@@ -115,12 +115,12 @@ fn named(commas: usize, token: &Token<'_>) -> Back
 }
 
 /// What is read before the token in front of a name with a `(` behind it: the heading of a definition is no call.
-fn headed(call: Call, kind: Kind) -> Back
+fn headed(call: PartialCall, kind: Kind) -> Back
     ensures is { result ≡ headed call kind }
     ensures few { counted result ≤ 0 }
 {
     if same_kind(kind, Kind::Run) {
-        Back::Called(Call {
+        Back::Called(PartialCall {
             is_run: true,
             ..call
         })
@@ -146,7 +146,7 @@ fn next(back: Back, token: &Token<'_>) -> Back
 }
 
 /// The call that was read.
-fn called(back: Back) -> Option<Call>
+fn called(back: Back) -> Option<PartialCall>
     ensures { result ≡ called back }
 {
     match back {
@@ -157,7 +157,7 @@ fn called(back: Back) -> Option<Call>
 
 /// The innermost call among whose arguments a place stands behind these tokens. Behind a statement's end that stands within the call, and in braces there, it
 /// is in none.
-pub fn call_around(tokens: &[Token<'_>]) -> Option<Call>
+pub fn call_around(tokens: &[Token<'_>]) -> Option<PartialCall>
     ensures { result ≡ call_around tokens.now }
 {
     let mut back = Back::Within(0, 0);

@@ -3,19 +3,19 @@
 ghost use Rattle.std.specs.Prelude.{◌≡◌, ◌++◌, None, take, drop, IfOk, OnOk};
 ghost use Rattle.text_parts.specs.Definitions.{word_of, is_named, definition, count_before, end_of, behind_parameters, up_to, heading, separates, grown, listed, parts, parameters};
 
-use crate::calls::Call;
+use crate::calls::PartialCall;
 use pml_token::token::{Kind, Token, same_kind};
 use std::alloc::{AllocError, Global};
 
 /// A part of a text, from one byte up to another.
 #[derive(Clone, Copy, Debug, PartialEq, Eq)]
-pub struct Part {
+pub struct TextPart {
     pub from: usize,
     pub to: usize,
 }
 
 /// The word with which the definition begins of what is called.
-fn word_of(call: Call) -> Kind
+fn word_of(call: PartialCall) -> Kind
     ensures { result ≡ word_of call }
 {
     if call.is_run {
@@ -58,7 +58,11 @@ fn is_named(name: &[u8], tokens: &[Token<'_>]) -> bool
 }
 
 /// The tokens from the first definition of what is called on: none, if there is no definition of this name.
-pub fn definition<'s, 'a>(tokens: &'s [Token<'a>], name: &[u8], call: Call) -> &'s [Token<'a>]
+pub fn definition<'s, 'a>(
+    tokens: &'s [Token<'a>],
+    name: &[u8],
+    call: PartialCall,
+) -> &'s [Token<'a>]
     ensures { result.now ≡ definition (word_of call) name.now tokens.now }
 {
     let word = word_of(call);
@@ -98,11 +102,11 @@ fn behind_parameters<'s, 'a>(tokens: &'s [Token<'a>]) -> &'s [Token<'a>]
 }
 
 /// The part of a text from a token up to the end of the first of others, if there are some.
-fn up_to(token: &Token<'_>, rest: &[Token<'_>]) -> Option<Part>
+fn up_to(token: &Token<'_>, rest: &[Token<'_>]) -> Option<TextPart>
     ensures { result ≡ up_to token.now rest.now }
 {
     match rest {
-        [last, ..] => Some(Part {
+        [last, ..] => Some(TextPart {
             from: token.line() as usize,
             to: end_of(last),
         }),
@@ -111,7 +115,7 @@ fn up_to(token: &Token<'_>, rest: &[Token<'_>]) -> Option<Part>
 }
 
 /// The heading of a definition that begins these tokens, from its word up to the `)` behind its parameters.
-pub fn heading(tokens: &[Token<'_>]) -> Option<Part>
+pub fn heading(tokens: &[Token<'_>]) -> Option<TextPart>
     ensures { result ≡ heading tokens.now }
 {
     match tokens {
@@ -128,16 +132,16 @@ fn separates(kind: Kind) -> bool
 }
 
 /// A part with one more token.
-fn grown(part: Option<Part>, token: &Token<'_>) -> Part
+fn grown(part: Option<TextPart>, token: &Token<'_>) -> TextPart
     ensures { result ≡ grown part token.now }
 {
     let to = end_of(token);
     match part {
-        Some(part) => Part {
+        Some(part) => TextPart {
             from: part.from,
             to,
         },
-        None => Part {
+        None => TextPart {
             from: token.line() as usize,
             to,
         },
@@ -145,7 +149,7 @@ fn grown(part: Option<Part>, token: &Token<'_>) -> Part
 }
 
 /// Adds a part, if there is one.
-fn add_part(out: &mut Vec<Part>, part: Option<Part>) -> Result<(), AllocError>
+fn add_part(out: &mut Vec<TextPart>, part: Option<TextPart>) -> Result<(), AllocError>
     ensures { OnOk result (out.new.items ≡ out.old.items ++ listed part) }
 {
     if let Some(part) = part {
@@ -155,7 +159,7 @@ fn add_part(out: &mut Vec<Part>, part: Option<Part>) -> Result<(), AllocError>
 }
 
 /// The parts that tokens have between what separates them.
-fn parts_of(alloc: Global, tokens: &[Token<'_>]) -> Result<Vec<Part>, AllocError>
+fn parts_of(alloc: Global, tokens: &[Token<'_>]) -> Result<Vec<TextPart>, AllocError>
     ensures { IfOk result (λ ps. ps.items ≡ parts None tokens.now) }
 {
     let mut out = Vec::new(alloc);
@@ -173,7 +177,7 @@ fn parts_of(alloc: Global, tokens: &[Token<'_>]) -> Result<Vec<Part>, AllocError
 }
 
 /// The parts of a text in which the parameters are declared of a definition that begins these tokens.
-pub fn parameters(alloc: Global, tokens: &[Token<'_>]) -> Result<Vec<Part>, AllocError>
+pub fn parameters(alloc: Global, tokens: &[Token<'_>]) -> Result<Vec<TextPart>, AllocError>
     ensures { IfOk result (λ ps. ps.items ≡ parameters tokens.now) }
 {
     let inner = behind(tokens, 3);

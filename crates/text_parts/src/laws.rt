@@ -2,7 +2,7 @@
 
 ghost use Rattle.std.specs.Prelude.{◌≡◌, ℕ, List, map};
 ghost use Rattle.text_parts.specs.Arguments.{CallsAreFound};
-ghost use Rattle.text_parts.specs.declared.places.Unit.{Unit};
+ghost use Rattle.text_parts.specs.declared.places.ColumnUnit.{ColumnUnit};
 ghost use Rattle.text_parts.specs.declared.parts.Coloured.{Coloured};
 ghost use Rattle.text_parts.specs.Going.{start, gone};
 ghost use Rattle.text_parts.specs.Coded.{coded, decoded, place_of, Rises};
@@ -14,5 +14,5 @@ pub fn calls_are_found()
 
 /// An editor that adds the numbers up finds each part at its place: that behind the bytes before it.
 pub fn numbers_lead_to_places()
-    ensures { (u : Unit) (text : List ℕ) (parts : List Coloured) → Rises text 0 parts → decoded start (coded u text 0 parts) ≡ map (place_of u text) parts }
+    ensures { (u : ColumnUnit) (text : List ℕ) (parts : List Coloured) → Rises text 0 parts → decoded start (coded u text 0 parts) ≡ map (place_of u text) parts }
 {}

@@ -13,10 +13,10 @@ mod places;
 mod rest;
 mod written;
 
-pub use calls::{Call, call_around};
-pub use definitions::{Part, definition, heading, parameters};
+pub use calls::{PartialCall, call_around};
+pub use definitions::{TextPart, definition, heading, parameters};
 pub use folds::{Fold, folds_of};
 pub use going::gone;
 pub use parts::{Coloured, coded};
-pub use places::{Place, Unit, offset_of, place_of, units};
+pub use places::{ColumnUnit, EditorPlace, offset_of, place_of, units};
 pub use rest::rest_of;

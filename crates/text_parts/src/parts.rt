@@ -4,7 +4,7 @@ ghost use Rattle.std.specs.Prelude.{◌≡◌, ◌++◌, take, drop, IfOk, OnOk}
 ghost use Rattle.text_parts.specs.Coded.{five, coded};
 
 use crate::going::gone;
-use crate::places::{Unit, units};
+use crate::places::{ColumnUnit, units};
 use source_lines::position::between;
 use std::alloc::{AllocError, Global};
 
@@ -37,7 +37,7 @@ fn bytes_at(text: &[u8], at: usize, length: usize) -> &[u8]
 /// Adds the numbers of a part, behind a place.
 fn add_part(
     out: &mut Vec<usize>,
-    unit: Unit,
+    unit: ColumnUnit,
     text: &[u8],
     behind: usize,
     part: Coloured,
@@ -58,7 +58,7 @@ fn add_part(
 /// below it, behind the line's start; how many units it has, what it is, and that no more is said of it.
 pub fn coded(
     alloc: Global,
-    unit: Unit,
+    unit: ColumnUnit,
     text: &[u8],
     parts: &[Coloured],
 ) -> Result<Vec<usize>, AllocError>

@@ -9,7 +9,7 @@ use source_lines::position::{between, first_line, is_line_feed, line_of};
 
 /// What a column counts.
 #[derive(Clone, Copy, Debug, PartialEq, Eq)]
-pub enum Unit {
+pub enum ColumnUnit {
     /// Bytes.
     Utf8,
     /// A character of four bytes is two, any other is one.
@@ -18,7 +18,7 @@ pub enum Unit {
 
 /// A place as an editor names it.
 #[derive(Clone, Copy, Debug, PartialEq, Eq)]
-pub struct Place {
+pub struct EditorPlace {
     /// From 0.
     pub line: usize,
     /// From 0.
@@ -38,12 +38,12 @@ fn begins_pair(byte: u8) -> bool
 }
 
 /// How many units bytes have. In bytes that are no UTF-8, one that begins no character counts nothing.
-pub fn units(unit: Unit, bytes: &[u8]) -> usize
+pub fn units(unit: ColumnUnit, bytes: &[u8]) -> usize
     ensures { result ≡ units unit bytes.now }
 {
     match unit {
-        Unit::Utf8 => bytes.len(),
-        Unit::Utf16 => {
+        ColumnUnit::Utf8 => bytes.len(),
+        ColumnUnit::Utf16 => {
             let characters = bytes.iter().filter(|b| begins_character(**b)).count();
             let pairs = bytes.iter().filter(|b| begins_pair(**b)).count();
             characters + pairs
@@ -52,24 +52,24 @@ pub fn units(unit: Unit, bytes: &[u8]) -> usize
 }
 
 /// The line and the column of what stands behind so many bytes of a text. A line ends with its line feed.
-pub fn place_of(text: &[u8], offset: usize, unit: Unit) -> Place
+pub fn place_of(text: &[u8], offset: usize, unit: ColumnUnit) -> EditorPlace
     ensures line { result.line + 1 ≡ number_at text.now offset }
     ensures column { result.column ≡ units unit (front_on_line text.now offset) }
 {
     let line = line_of(text, offset);
-    Place {
+    EditorPlace {
         line: line.number - 1,
         column: units(unit, between(text, line.start, offset)),
     }
 }
 
 /// How many units a byte counts by itself.
-fn units_in(unit: Unit, byte: u8) -> usize
+fn units_in(unit: ColumnUnit, byte: u8) -> usize
     ensures { result ≡ units_in unit byte }
 {
     match unit {
-        Unit::Utf8 => 1,
-        Unit::Utf16 => {
+        ColumnUnit::Utf8 => 1,
+        ColumnUnit::Utf16 => {
             let character = if begins_character(byte) { 1 } else { 0 };
             let pair = if begins_pair(byte) { 1 } else { 0 };
             character + pair
@@ -95,7 +95,7 @@ fn start_of(text: &[u8], lines: usize) -> usize
 }
 
 /// How many bytes of a line stand before the first character that so many units do not reach.
-fn reach(unit: Unit, line: &[u8], column: usize) -> usize
+fn reach(unit: ColumnUnit, line: &[u8], column: usize) -> usize
     ensures is { result ≡ reach unit column line.now }
     ensures within { result ≤ length line.now }
 {
@@ -111,7 +111,7 @@ fn reach(unit: Unit, line: &[u8], column: usize) -> usize
 
 /// How many bytes of a text stand before a place. What lies behind the end of a line is its end, before a carriage return; what lies behind the last
 /// line is the end of the text, and what lies within a character is the end of that.
-pub fn offset_of(text: &[u8], place: Place, unit: Unit) -> usize
+pub fn offset_of(text: &[u8], place: EditorPlace, unit: ColumnUnit) -> usize
     ensures is { result ≡ offset_of unit place text.now }
     ensures within { result ≤ length text.now }
 {

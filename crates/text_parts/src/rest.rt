@@ -3,7 +3,7 @@
 ghost use Rattle.std.specs.Prelude.{◌≡◌, take, drop, IfOk, option_map};
 ghost use Rattle.text_parts.specs.Rest.{inner, blanked, rest_by, IsRest};
 
-use crate::bodies::{Body, body_at};
+use crate::bodies::{ProcessBody, body_at};
 use crate::written::{shown_in, write};
 use explain_tokens::placed;
 use pml_lex::fault::LexError;
@@ -11,7 +11,7 @@ use source_lines::position::between;
 use std::alloc::{AllocError, Global};
 
 /// The bytes between the brace that opens a body and what stands behind it.
-fn inner(text: &[u8], body: Body) -> &[u8]
+fn inner(text: &[u8], body: ProcessBody) -> &[u8]
     ensures { result.now ≡ inner text.now body }
 {
     between(text, body.brace as usize + 1, body.end)
@@ -40,7 +40,7 @@ fn behind(text: &[u8], count: usize) -> &[u8]
 }
 
 /// The text with `1}` in place of what stands behind the brace of a body, and else blanks.
-fn blanked(alloc: Global, text: &[u8], body: Body) -> Result<Vec<u8>, AllocError>
+fn blanked(alloc: Global, text: &[u8], body: ProcessBody) -> Result<Vec<u8>, AllocError>
     ensures { IfOk result (λ t. t.items ≡ blanked text.now body) }
 {
     let mut out = Vec::new(alloc);
@@ -51,7 +51,11 @@ fn blanked(alloc: Global, text: &[u8], body: Body) -> Result<Vec<u8>, AllocError
 }
 
 /// The text without a body, if there is one in which more is written than would be then.
-fn rest_by(alloc: Global, text: &[u8], body: Option<Body>) -> Result<Option<Vec<u8>>, AllocError>
+fn rest_by(
+    alloc: Global,
+    text: &[u8],
+    body: Option<ProcessBody>,
+) -> Result<Option<Vec<u8>>, AllocError>
     ensures { IfOk result (λ o. option_map (λ t. t.items) o ≡ rest_by text.now body) }
 {
     match body {

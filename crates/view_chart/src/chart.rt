@@ -2,7 +2,7 @@
 
 ghost use Rattle.view_text.specs.Written.{Stays};
 
-use crate::row::Row;
+use crate::row::ChartRow;
 use promela_run::moves::Move;
 use view_cells::channels::{add_fields, add_short_name, channel_at};
 use view_cells::picture::Picture;
@@ -50,7 +50,7 @@ pub fn add_birth(
     add_name(picture, process, &mut label);
     label.add(b" ");
     label.number(process);
-    let mut row = Row::new(out.allocator(), width, step);
+    let mut row = ChartRow::new(out.allocator(), width, step);
     row.living(process);
     row.column(b"+", label.bytes());
     row.end(out);
@@ -60,14 +60,14 @@ pub fn add_birth(
 fn add_death(width: usize, step: usize, process: usize, out: &mut Writer)
     ensures { Stays out.old out.new }
 {
-    let mut row = Row::new(out.allocator(), width, step);
+    let mut row = ChartRow::new(out.allocator(), width, step);
     row.living(process);
     row.column(b"x", b"");
     row.end(out);
 }
 
 // Writes the row of a rendezvous.
-fn add_pass(row: &mut Row, alive: usize, from: usize, to: usize, label: &[u8])
+fn add_pass(row: &mut ChartRow, alive: usize, from: usize, to: usize, label: &[u8])
     ensures { Stays row.old.text row.new.text }
 {
     let low = from.min(to);
@@ -78,7 +78,7 @@ fn add_pass(row: &mut Row, alive: usize, from: usize, to: usize, label: &[u8])
 }
 
 // Writes the columns of a step in which one process acts.
-fn add_act(row: &mut Row, alive: usize, process: usize, label: &[u8])
+fn add_act(row: &mut ChartRow, alive: usize, process: usize, label: &[u8])
     ensures { Stays row.old.text row.new.text }
 {
     row.living(process);
@@ -116,7 +116,7 @@ pub fn add_row(
     let mut label = Writer::new(out.allocator());
     add_label(picture, transfer, sign.as_bytes(), &mut label);
     let alive = picture.process_count();
-    let mut row = Row::new(out.allocator(), width, step);
+    let mut row = ChartRow::new(out.allocator(), width, step);
     match m {
         Move::Pair(sender, receiver, _) => {
             add_pass(
@@ -137,7 +137,7 @@ pub fn add_row(
 pub fn add_note(step: usize, words: &[u8], out: &mut Writer)
     ensures { Stays out.old out.new }
 {
-    let mut row = Row::new(out.allocator(), 0, step);
+    let mut row = ChartRow::new(out.allocator(), 0, step);
     row.words(words);
     row.end(out);
 }
@@ -146,7 +146,7 @@ pub fn add_note(step: usize, words: &[u8], out: &mut Writer)
 pub fn add_claim(step: usize, line: usize, out: &mut Writer)
     ensures { Stays out.old out.new }
 {
-    let mut row = Row::new(out.allocator(), 0, step);
+    let mut row = ChartRow::new(out.allocator(), 0, step);
     row.words(b"claim line ");
     row.number(line);
     row.end(out);
@@ -156,7 +156,7 @@ pub fn add_claim(step: usize, line: usize, out: &mut Writer)
 pub fn add_end(steps: usize, end: &[u8], out: &mut Writer)
     ensures { Stays out.old out.new }
 {
-    let mut row = Row::new(out.allocator(), 0, steps);
+    let mut row = ChartRow::new(out.allocator(), 0, steps);
     row.words(b"end: ");
     row.words(end);
     row.words(b", steps ");

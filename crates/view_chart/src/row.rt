@@ -33,21 +33,21 @@ fn without_blanks(bytes: &[u8]) -> &[u8] {
 
 /// A row that is written column by column, each of so many bytes.
 #[derive(Drop)]
-pub struct Row {
+pub struct ChartRow {
     text: Writer,
     width: usize,
 }
 
-impl Row {
+impl ChartRow {
     /// The row of a step.
-    pub fn new(alloc: Global, width: usize, step: usize) -> Row {
+    pub fn new(alloc: Global, width: usize, step: usize) -> ChartRow {
         let mut digits = Writer::new(alloc);
         digits.number(step);
         let mut text = Writer::new(alloc);
         text.blanks(STEP_WIDTH.saturating_sub(digits.len()));
         text.join(&digits);
         text.add(b" ");
-        Row { text, width }
+        ChartRow { text, width }
     }
 
     /// Writes a column: a mark, and a label behind it.

@@ -8,11 +8,11 @@ use Rattle.promela_run.specs.State.{State, channel_at, filling}
 use Rattle.promela_run.specs.Steps.{sorts}
 use Rattle.pml_value.specs.Seen as view
 use Rattle.view_cells.specs.Processes.{line_of}
-use Rattle.view_condition.specs.declared.subject.Whose.{Whose}
+use Rattle.view_condition.specs.declared.subject.TypedProcess.{TypedProcess}
 use Rattle.view_condition.specs.declared.subject.Spot.{Spot}
 use Rattle.view_condition.specs.declared.subject.Spot.TheVariants as spot
-use Rattle.view_condition.specs.declared.subject.Subject.{Subject}
-use Rattle.view_condition.specs.declared.subject.Subject.TheVariants.{Global, Local, At, Any, Line}
+use Rattle.view_condition.specs.declared.subject.StateSubject.{StateSubject}
+use Rattle.view_condition.specs.declared.subject.StateSubject.TheVariants.{Global, Local, At, Any, Line}
 use Rattle.view_condition.specs.Standing.{is_on}
 use Rattle.view_condition.specs.declared.overview.Overview.{Overview}
 
@@ -25,7 +25,7 @@ abbrev pub is_of : State → ℕ → ℕ → Bool
 is_of s k p = is_sort k (slice_get (sorts s) p)
 
 -- whether a process lives, and is of this proctype
-abbrev pub is_there : State → Whose → Bool
+abbrev pub is_there : State → TypedProcess → Bool
 is_there s w = is_of s w.sort w.process
 
 -- whether a process stands there
@@ -34,7 +34,7 @@ at_spot s p (spot.Line line) = line_of s p == line
 at_spot s p (spot.Node node) = is_on s p node
 
 -- whether it is there, and stands at this spot
-abbrev pub stands_at : State → Whose → Spot → Bool
+abbrev pub stands_at : State → TypedProcess → Spot → Bool
 stands_at s w x = is_there s w && at_spot s w.process x
 
 -- whether one of so many processes is of a proctype, and stands at this spot
@@ -48,7 +48,7 @@ any_at s line zero = false
 any_at s line (suc n) = any_at s line n || (line_of s n == line)
 
 -- how many cells a variable has: those of a process that is not there has none
-abbrev pub size_by : State → Option Subject → ℕ
+abbrev pub size_by : State → Option StateSubject → ℕ
 size_by s None = 0
 size_by s (Some (Global v)) = size_at s.frames 0 v
 size_by s (Some (Local w v)) = if is_there s w then size_at s.frames (w.process + 1) v else 0
@@ -61,7 +61,7 @@ abbrev pub number_by_frame : State → ℕ → ℕ → ℕ → ℤ
 number_by_frame s frame variable cell = number_at s.frames (record { frame = frame; variable = variable; cell = cell })
 
 -- the number of a cell of a variable
-abbrev pub number_by : State → Option Subject → ℕ → ℤ
+abbrev pub number_by : State → Option StateSubject → ℕ → ℤ
 number_by s None cell = pos 0
 number_by s (Some (Global v)) cell = number_by_frame s 0 v cell
 number_by s (Some (Local w v)) cell = number_by_frame s (w.process + 1) v cell
@@ -70,7 +70,7 @@ number_by s (Some (Any k x)) cell = truth_number (any_of s k x (length s.stands)
 number_by s (Some (Line line)) cell = truth_number (any_at s line (length s.stands))
 
 -- what a condition reads of a state, where its variables are these
-abbrev pub all_of : State → List Subject → Reading
+abbrev pub all_of : State → List StateSubject → Reading
 all_of s subjects = record {
   frame = λ local. 0;
   cells = λ frame variable. size_by s (slice_get subjects variable);

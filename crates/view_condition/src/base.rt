@@ -1,8 +1,8 @@
 //! What the first names of a reference lead to.
 
-use crate::names::{Declaration, constant_named, declared_as, sort_named};
+use crate::names::{DeclaredVariable, constant_named, declared_as, sort_named};
 use crate::places::{LABEL, LINE};
-use crate::subject::{Spot, Subject, Whose};
+use crate::subject::{Spot, StateSubject, TypedProcess};
 use crate::unread::{Flaw, Unread, flawed};
 use check_uses::arithmetic::read;
 use pml_tree::tree::{Expr, Reference, Step};
@@ -14,20 +14,20 @@ use view_labels::lines::can_stand_at;
 
 /// A variable that is named, and as what it is declared.
 #[derive(Clone, Copy)]
-pub struct Found {
-    pub subject: Subject,
-    pub declared: Declaration,
+pub struct NamedVariable {
+    pub subject: StateSubject,
+    pub declared: DeclaredVariable,
 }
 
-impl Found {
+impl NamedVariable {
     /// Whether it is of a process.
     pub fn is_local(self) -> bool {
-        matches!(self.subject, Subject::Local(_, _))
+        matches!(self.subject, StateSubject::Local(_, _))
     }
 
     /// The variable from its first cell on.
-    pub fn whole(self) -> Declaration {
-        Declaration {
+    pub fn whole(self) -> DeclaredVariable {
+        DeclaredVariable {
             offset: 0,
             ..self.declared
         }
@@ -40,9 +40,9 @@ pub enum Base {
     Number(i32),
     ProcessCount,
     /// Whether somebody stands at a line.
-    Fact(Subject),
+    Fact(StateSubject),
     /// A variable of the globals, or one of a process, which the first of the fields names.
-    Variable(Found),
+    Variable(NamedVariable),
 }
 
 // The index of a step, where that is a number alone.
@@ -75,7 +75,7 @@ fn line_fact(
         return Err(flawed(Flaw::Field, field.name.line()));
     }
     match number_in(step) {
-        Some(line) if is_standing_line(picture, line) => Ok(Base::Fact(Subject::Line(line))),
+        Some(line) if is_standing_line(picture, line) => Ok(Base::Fact(StateSubject::Line(line))),
         Some(_) => Err(flawed(Flaw::Line, place_in(step))),
         None => Err(flawed(Flaw::Number, place_in(step))),
     }
@@ -85,15 +85,15 @@ fn line_fact(
 #[derive(Clone, Copy)]
 struct Named {
     sort: usize,
-    whose: Option<Whose>,
+    whose: Option<TypedProcess>,
 }
 
 impl Named {
     // That who is named stands there.
     fn at(self, spot: Spot) -> Base {
         match self.whose {
-            Some(whose) => Base::Fact(Subject::At(whose, spot)),
-            None => Base::Fact(Subject::Any(self.sort, spot)),
+            Some(whose) => Base::Fact(StateSubject::At(whose, spot)),
+            None => Base::Fact(StateSubject::Any(self.sort, spot)),
         }
     }
 }
@@ -141,10 +141,10 @@ fn at_label(
 }
 
 // The process that is named by its proctype, of this number, and its own.
-fn whose_of(sort: usize, step: &Step<'_>) -> Result<Whose, Unread> {
+fn whose_of(sort: usize, step: &Step<'_>) -> Result<TypedProcess, Unread> {
     match number_in(step) {
         Some(number) => match u8::try_from(number) {
-            Ok(process) => Ok(Whose { process, sort }),
+            Ok(process) => Ok(TypedProcess { process, sort }),
             Err(_) => Err(flawed(Flaw::Process, step.name.line())),
         },
         None => Err(flawed(Flaw::Process, step.name.line())),
@@ -172,8 +172,8 @@ fn variable_of(
         return Err(flawed(Flaw::Process, r.first.name.line()));
     };
     match declared_as(proctype.variables.as_slice(), step.name.text()) {
-        Some(declared) => Ok(Base::Variable(Found {
-            subject: Subject::Local(whose, declared.number),
+        Some(declared) => Ok(Base::Variable(NamedVariable {
+            subject: StateSubject::Local(whose, declared.number),
             declared,
         })),
         None => Err(flawed(Flaw::Name, step.name.line())),
@@ -232,8 +232,8 @@ pub fn base_of(
     }
     let program = picture.program();
     if let Some(declared) = declared_as(program.globals.as_slice(), name) {
-        return Ok(Base::Variable(Found {
-            subject: Subject::Global(declared.number),
+        return Ok(Base::Variable(NamedVariable {
+            subject: StateSubject::Global(declared.number),
             declared,
         }));
     }

@@ -7,7 +7,7 @@ ghost use Rattle.view_condition.specs.Seen.{all_of};
 use crate::overview::Overview;
 use crate::places::{dotted, respelled};
 use crate::resolve::resolved;
-use crate::subject::{Subject, Whose, is_there};
+use crate::subject::{StateSubject, TypedProcess, is_there};
 use crate::unread::{Flaw, Unread, flawed};
 use diagnostics::Fault;
 use explain_tokens::placed;
@@ -32,9 +32,9 @@ pub const MOST_DEPTH: usize = 100;
 
 /// A condition over all of a state.
 #[derive(Drop)]
-pub struct Condition {
+pub struct StateCondition {
     worth: Expr,
-    subjects: Vec<Subject>,
+    subjects: Vec<StateSubject>,
 }
 
 // The tokens of a text with dots in place of signs, each with its place.
@@ -102,12 +102,12 @@ fn condition_of<'a>(
     alloc: Global,
     tokens: &'a [Token<'a>],
     picture: &Picture<'_, '_, '_>,
-) -> Result<Condition, Unread> {
+) -> Result<StateCondition, Unread> {
     let mut subjects = Vec::new(alloc);
     match tree_of(alloc, MOST_DEPTH, tokens) {
         Ok(tree) => {
             let worth = resolved(alloc, tree.get(), picture, &mut subjects)?;
-            Ok(Condition { worth, subjects })
+            Ok(StateCondition { worth, subjects })
         }
         Err(ReadFault::Memory) => Err(Unread::Memory),
         Err(ReadFault::Syntax(left)) => Err(why_none(alloc, tokens, left)),
@@ -119,7 +119,7 @@ pub fn condition_in(
     alloc: Global,
     text: &[u8],
     picture: &Picture<'_, '_, '_>,
-) -> Result<Condition, Unread> {
+) -> Result<StateCondition, Unread> {
     if text.len() > MOST_BYTES {
         return Err(flawed(Flaw::Long, u32::MAX));
     }
@@ -131,7 +131,7 @@ pub fn condition_in(
     condition_of(alloc, &tokens, picture)
 }
 
-impl Condition {
+impl StateCondition {
     /// Its worth in a state, or the first fault from the left.
     pub fn worth(&self, picture: &Picture<'_, '_, '_>) -> Result<i32, Fault>
         ensures { result ≡ val self.now.worth (all_of picture.now self.now.subjects.items) }
@@ -141,7 +141,7 @@ impl Condition {
     }
 
     /// A process that it names, and that is not there in a state.
-    pub fn absent(&self, picture: &Picture<'_, '_, '_>) -> Option<Whose> {
+    pub fn absent(&self, picture: &Picture<'_, '_, '_>) -> Option<TypedProcess> {
         for subject in self.subjects.as_slice() {
             if let Some(whose) = subject.whose() {
                 if !is_there(picture, whose) {

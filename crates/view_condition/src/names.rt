@@ -8,7 +8,7 @@ use pml_token::token::Token;
 
 /// A variable or a field, by its number among its owner's, as it is declared.
 #[derive(Clone, Copy, Debug, PartialEq, Eq)]
-pub struct Declaration {
+pub struct DeclaredVariable {
     pub number: usize,
     pub form: Form,
     pub array: bool,
@@ -18,13 +18,13 @@ pub struct Declaration {
 }
 
 /// The variable or the field with this name.
-pub fn declared_as(slots: &[Slot<'_>], name: &[u8]) -> Option<Declaration>
+pub fn declared_as(slots: &[Slot<'_>], name: &[u8]) -> Option<DeclaredVariable>
     ensures { IfSome result (λ s. s.number < length slots.now) }
 {
     for number in 0..slots.len() {
         let slot = &slots[number];
         if slot.name.text() == name {
-            return Some(Declaration {
+            return Some(DeclaredVariable {
                 number,
                 form: slot.form,
                 array: slot.array,
@@ -38,7 +38,7 @@ pub fn declared_as(slots: &[Slot<'_>], name: &[u8]) -> Option<Declaration>
 }
 
 /// The field with this name of a type.
-pub fn field_named(typedefs: &[Fields<'_>], form: Form, name: &[u8]) -> Option<Declaration> {
+pub fn field_named(typedefs: &[Fields<'_>], form: Form, name: &[u8]) -> Option<DeclaredVariable> {
     let Form::Struct(owner) = form else {
         return None;
     };

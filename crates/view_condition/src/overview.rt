@@ -3,7 +3,7 @@
 ghost use Rattle.std.specs.Prelude.{◌≡◌};
 ghost use Rattle.view_condition.specs.Seen.{all_of, seen};
 
-use crate::subject::{Subject, number_by, size_by, subject_at};
+use crate::subject::{StateSubject, number_by, size_by, subject_at};
 use pml_eval::ground::{Filled, Ground};
 use pml_value::view::View;
 use promela_process::place::Place;
@@ -13,7 +13,7 @@ use view_cells::picture::Picture;
 #[derive(Drop)]
 pub struct Overview<'g, 'w, 'p, 'a> {
     pub picture: &'g Picture<'w, 'p, 'a>,
-    pub subjects: &'g [Subject],
+    pub subjects: &'g [StateSubject],
     /// What is read of channels, and how many processes live.
     pub view: View<'g>,
 }
@@ -22,7 +22,7 @@ impl<'g, 'w, 'p, 'a> Overview<'g, 'w, 'p, 'a> {
     /// What a condition reads of a state, whose variables are these.
     pub fn new(
         picture: &'g Picture<'w, 'p, 'a>,
-        subjects: &'g [Subject],
+        subjects: &'g [StateSubject],
     ) -> Overview<'g, 'w, 'p, 'a>
         ensures { seen result ≡ all_of picture.now subjects.now }
     {

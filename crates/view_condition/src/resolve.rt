@@ -2,10 +2,10 @@
 
 ghost use Rattle.std.specs.Prelude.{◌≡◌, ◌∷◌, ◌++◌, [], IfOk, OnOk, length};
 
-use crate::base::{Base, Found, base_of};
-use crate::names::{Declaration, field_named};
+use crate::base::{Base, NamedVariable, base_of};
+use crate::names::{DeclaredVariable, field_named};
 use crate::places::{LABEL, LINE};
-use crate::subject::Subject;
+use crate::subject::StateSubject;
 use crate::unread::{Flaw, Unread, flawed};
 use check_uses::arithmetic::{negative, value};
 use pml_program::expr::{Expr, Target, Turn, Want};
@@ -32,7 +32,7 @@ fn literal(token: &Token<'_>, sign: Sign) -> Result<i32, Unread> {
 }
 
 // The number that the next variable of a condition has, which is this.
-fn numbered(subject: Subject, subjects: &mut Vec<Subject>) -> Result<usize, AllocError>
+fn numbered(subject: StateSubject, subjects: &mut Vec<StateSubject>) -> Result<usize, AllocError>
     ensures number { IfOk result (λ n. n ≡ length subjects.old.items) }
     ensures added { OnOk result (subjects.new.items ≡ subjects.old.items ++ subject ∷ []) }
 {
@@ -44,8 +44,8 @@ fn numbered(subject: Subject, subjects: &mut Vec<Subject>) -> Result<usize, Allo
 // A fact, as a variable.
 fn fact_read(
     alloc: Global,
-    subject: Subject,
-    subjects: &mut Vec<Subject>,
+    subject: StateSubject,
+    subjects: &mut Vec<StateSubject>,
 ) -> Result<Expr, AllocError> {
     let mut turns = Items::new(alloc);
     turns.push(Turn {
@@ -69,7 +69,7 @@ fn index(
     is_array: bool,
     step: &Step<'_>,
     picture: &Picture<'_, '_, '_>,
-    subjects: &mut Vec<Subject>,
+    subjects: &mut Vec<StateSubject>,
 ) -> Result<Option<Boxed<Expr>>, Unread> {
     match &step.index {
         None => {
@@ -91,10 +91,10 @@ fn index(
 #[cycle(resolve)]
 fn turn(
     alloc: Global,
-    declared: Declaration,
+    declared: DeclaredVariable,
     step: &Step<'_>,
     picture: &Picture<'_, '_, '_>,
-    subjects: &mut Vec<Subject>,
+    subjects: &mut Vec<StateSubject>,
 ) -> Result<Turn, Unread> {
     let index = index(alloc, declared.array, step, picture, subjects)?;
     Ok(Turn {
@@ -109,7 +109,7 @@ fn turn(
 #[derive(Clone, Copy)]
 struct Reached {
     form: Form,
-    next: Option<Declaration>,
+    next: Option<DeclaredVariable>,
 }
 
 // What is wrong where no field has a name, which may be of a place.
@@ -126,7 +126,7 @@ fn declared_by(
     reached: Reached,
     name: &Token<'_>,
     picture: &Picture<'_, '_, '_>,
-) -> Result<Declaration, Unread> {
+) -> Result<DeclaredVariable, Unread> {
     if let Some(declared) = reached.next {
         return Ok(declared);
     }
@@ -144,7 +144,7 @@ fn through(
     reached: Reached,
     steps: &[Step<'_>],
     picture: &Picture<'_, '_, '_>,
-    subjects: &mut Vec<Subject>,
+    subjects: &mut Vec<StateSubject>,
     turns: &mut Items<Turn>,
 ) -> Result<Form, Unread> {
     let mut here = reached;
@@ -163,10 +163,10 @@ fn through(
 #[cycle(resolve)]
 fn global_turns(
     alloc: Global,
-    declared: Declaration,
+    declared: DeclaredVariable,
     r: &Reference<'_>,
     picture: &Picture<'_, '_, '_>,
-    subjects: &mut Vec<Subject>,
+    subjects: &mut Vec<StateSubject>,
     turns: &mut Items<Turn>,
 ) -> Result<Form, Unread> {
     turns.push(turn(alloc, declared, &r.first, picture, subjects)?)?;
@@ -182,10 +182,10 @@ fn global_turns(
 #[cycle(resolve)]
 fn target(
     alloc: Global,
-    found: Found,
+    found: NamedVariable,
     r: &Reference<'_>,
     picture: &Picture<'_, '_, '_>,
-    subjects: &mut Vec<Subject>,
+    subjects: &mut Vec<StateSubject>,
 ) -> Result<Target, Unread> {
     let declared = found.whole();
     let mut turns = Items::new(alloc);
@@ -217,7 +217,7 @@ fn read(
     alloc: Global,
     r: &Reference<'_>,
     picture: &Picture<'_, '_, '_>,
-    subjects: &mut Vec<Subject>,
+    subjects: &mut Vec<StateSubject>,
 ) -> Result<Expr, Unread> {
     match base_of(alloc, r, picture)? {
         Base::Number(number) => Ok(Expr::Number(number)),
@@ -233,7 +233,7 @@ fn placed(
     alloc: Global,
     r: &Reference<'_>,
     picture: &Picture<'_, '_, '_>,
-    subjects: &mut Vec<Subject>,
+    subjects: &mut Vec<StateSubject>,
 ) -> Result<Target, Unread> {
     match base_of(alloc, r, picture)? {
         Base::Variable(found) => target(alloc, found, r, picture, subjects),
@@ -247,7 +247,7 @@ fn channel(
     alloc: Global,
     r: &Reference<'_>,
     picture: &Picture<'_, '_, '_>,
-    subjects: &mut Vec<Subject>,
+    subjects: &mut Vec<StateSubject>,
 ) -> Result<Boxed<Target>, Unread> {
     let place = placed(alloc, r, picture, subjects)?;
     if !is_chan(place.form) {
@@ -262,7 +262,7 @@ fn into(
     alloc: Global,
     r: &Reference<'_>,
     picture: &Picture<'_, '_, '_>,
-    subjects: &mut Vec<Subject>,
+    subjects: &mut Vec<StateSubject>,
 ) -> Result<Want, Unread> {
     if r.first.name.text() == b"_".as_slice() {
         return Ok(Want::Anything);
@@ -278,7 +278,7 @@ fn want(
     alloc: Global,
     argument: &Argument<'_>,
     picture: &Picture<'_, '_, '_>,
-    subjects: &mut Vec<Subject>,
+    subjects: &mut Vec<StateSubject>,
 ) -> Result<Want, Unread> {
     match argument {
         Argument::Exactly(sign, token) => Ok(Want::Exactly(literal(token, *sign)?)),
@@ -293,7 +293,7 @@ fn wants(
     alloc: Global,
     arguments: &[Argument<'_>],
     picture: &Picture<'_, '_, '_>,
-    subjects: &mut Vec<Subject>,
+    subjects: &mut Vec<StateSubject>,
 ) -> Result<Items<Want>, Unread> {
     let mut found = Items::new(alloc);
     for argument in arguments {
@@ -308,7 +308,7 @@ fn boxed(
     alloc: Global,
     e: &TreeExpr<'_>,
     picture: &Picture<'_, '_, '_>,
-    subjects: &mut Vec<Subject>,
+    subjects: &mut Vec<StateSubject>,
 ) -> Result<Boxed<Expr>, Unread> {
     let worth = resolved(alloc, e, picture, subjects)?;
     Ok(Boxed::new(alloc, worth)?)
@@ -320,7 +320,7 @@ pub fn resolved(
     alloc: Global,
     e: &TreeExpr<'_>,
     picture: &Picture<'_, '_, '_>,
-    subjects: &mut Vec<Subject>,
+    subjects: &mut Vec<StateSubject>,
 ) -> Result<Expr, Unread> {
     match e {
         TreeExpr::Number(token) => Ok(Expr::Number(literal(token, Sign::Plus)?)),

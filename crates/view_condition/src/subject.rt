@@ -15,7 +15,7 @@ use view_cells::processes::line_of;
 
 /// A process, and which proctype it is to be of.
 #[derive(Clone, Copy, Debug, PartialEq, Eq)]
-pub struct Whose {
+pub struct TypedProcess {
     pub process: u8,
     pub sort: usize,
 }
@@ -31,31 +31,31 @@ pub enum Spot {
 
 /// What a variable of a condition is in a state.
 #[derive(Clone, Copy, Debug, PartialEq, Eq)]
-pub enum Subject {
+pub enum StateSubject {
     /// A variable of the globals.
     Global(usize),
     /// A variable of a process, while it is of this proctype.
-    Local(Whose, usize),
+    Local(TypedProcess, usize),
     /// 1 where a process, which is of this proctype, stands there, and else 0.
-    At(Whose, Spot),
+    At(TypedProcess, Spot),
     /// 1 where any process of this proctype stands there, and else 0.
     Any(usize, Spot),
     /// 1 where any process stands at this line, and else 0.
     Line(u32),
 }
 
-impl Subject {
+impl StateSubject {
     /// The process that it is of.
-    pub fn whose(self) -> Option<Whose> {
+    pub fn whose(self) -> Option<TypedProcess> {
         match self {
-            Subject::Local(whose, _) | Subject::At(whose, _) => Some(whose),
-            Subject::Global(_) | Subject::Any(_, _) | Subject::Line(_) => None,
+            StateSubject::Local(whose, _) | StateSubject::At(whose, _) => Some(whose),
+            StateSubject::Global(_) | StateSubject::Any(_, _) | StateSubject::Line(_) => None,
         }
     }
 }
 
 /// What the variable with this number is.
-pub fn subject_at(subjects: &[Subject], variable: usize) -> Option<Subject>
+pub fn subject_at(subjects: &[StateSubject], variable: usize) -> Option<StateSubject>
     ensures { result ≡ slice_get subjects.now variable }
 {
     match subjects.get(variable) {
@@ -75,7 +75,7 @@ fn is_of(picture: &Picture<'_, '_, '_>, sort: usize, process: usize) -> bool
 }
 
 /// Whether a process lives, and is of this proctype.
-pub fn is_there(picture: &Picture<'_, '_, '_>, whose: Whose) -> bool
+pub fn is_there(picture: &Picture<'_, '_, '_>, whose: TypedProcess) -> bool
     ensures { result ≡ is_there picture.now whose }
 {
     is_of(picture, whose.sort, usize::from(whose.process))
@@ -121,7 +121,7 @@ fn at_spot(picture: &Picture<'_, '_, '_>, process: usize, spot: Spot) -> bool
 }
 
 // Whether a process is there, and stands at this spot.
-fn stands_at(picture: &Picture<'_, '_, '_>, whose: Whose, spot: Spot) -> bool
+fn stands_at(picture: &Picture<'_, '_, '_>, whose: TypedProcess, spot: Spot) -> bool
     ensures { result ≡ stands_at picture.now whose spot }
 {
     is_there(picture, whose) && at_spot(picture, usize::from(whose.process), spot)
@@ -150,8 +150,8 @@ pub fn any_at(picture: &Picture<'_, '_, '_>, line: u32, count: usize) -> bool
 }
 
 // How many cells a variable of a process has, while it is there.
-fn local_size(picture: &Picture<'_, '_, '_>, whose: Whose, variable: usize) -> usize
-    ensures { result ≡ size_by picture.now (Some (Subject.Local whose variable)) }
+fn local_size(picture: &Picture<'_, '_, '_>, whose: TypedProcess, variable: usize) -> usize
+    ensures { result ≡ size_by picture.now (Some (StateSubject.Local whose variable)) }
 {
     if is_there(picture, whose) {
         cell_count(picture, usize::from(whose.process) + 1, variable)
@@ -161,13 +161,15 @@ fn local_size(picture: &Picture<'_, '_, '_>, whose: Whose, variable: usize) -> u
 }
 
 /// How many cells a variable has.
-pub fn size_by(picture: &Picture<'_, '_, '_>, subject: Option<Subject>) -> usize
+pub fn size_by(picture: &Picture<'_, '_, '_>, subject: Option<StateSubject>) -> usize
     ensures { result ≡ size_by picture.now subject }
 {
     match subject {
-        Some(Subject::Global(variable)) => cell_count(picture, 0, variable),
-        Some(Subject::Local(whose, variable)) => local_size(picture, whose, variable),
-        Some(Subject::At(_, _)) | Some(Subject::Any(_, _)) | Some(Subject::Line(_)) => 1,
+        Some(StateSubject::Global(variable)) => cell_count(picture, 0, variable),
+        Some(StateSubject::Local(whose, variable)) => local_size(picture, whose, variable),
+        Some(StateSubject::At(_, _))
+        | Some(StateSubject::Any(_, _))
+        | Some(StateSubject::Line(_)) => 1,
         None => 0,
     }
 }
@@ -185,19 +187,19 @@ fn number_in(picture: &Picture<'_, '_, '_>, frame: usize, variable: usize, cell:
 }
 
 /// The number of a cell of a variable.
-pub fn number_by(picture: &Picture<'_, '_, '_>, subject: Option<Subject>, cell: usize) -> i32
+pub fn number_by(picture: &Picture<'_, '_, '_>, subject: Option<StateSubject>, cell: usize) -> i32
     ensures { result ≡ number_by picture.now subject cell }
 {
     match subject {
-        Some(Subject::Global(variable)) => number_in(picture, 0, variable, cell),
-        Some(Subject::Local(whose, variable)) => {
+        Some(StateSubject::Global(variable)) => number_in(picture, 0, variable, cell),
+        Some(StateSubject::Local(whose, variable)) => {
             number_in(picture, usize::from(whose.process) + 1, variable, cell)
         }
-        Some(Subject::At(whose, spot)) => number_of(stands_at(picture, whose, spot)),
-        Some(Subject::Any(sort, spot)) => {
+        Some(StateSubject::At(whose, spot)) => number_of(stands_at(picture, whose, spot)),
+        Some(StateSubject::Any(sort, spot)) => {
             number_of(any_of(picture, sort, spot, picture.process_count()))
         }
-        Some(Subject::Line(line)) => number_of(any_at(picture, line, picture.process_count())),
+        Some(StateSubject::Line(line)) => number_of(any_at(picture, line, picture.process_count())),
         None => 0,
     }
 }

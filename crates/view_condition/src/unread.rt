@@ -90,7 +90,7 @@ impl Flaw {
 
 /// Why a condition is refused, and how many of its bytes stand before what that is about.
 #[derive(Clone, Copy, Debug, PartialEq, Eq)]
-pub struct Refused {
+pub struct PlacedFlaw {
     pub flaw: Flaw,
     pub at: usize,
 }
@@ -110,7 +110,7 @@ fn word_at(text: &[u8], at: usize) -> &[u8] {
     rest
 }
 
-impl Refused {
+impl PlacedFlaw {
     /// Writes why a condition with this text is refused, as a line.
     pub fn add(self, text: &[u8], out: &mut Writer)
         ensures { Stays out.old out.new }
@@ -128,14 +128,14 @@ impl Refused {
 pub enum Unread {
     /// Memory was refused.
     Memory,
-    Refused(Refused),
+    Refused(PlacedFlaw),
 }
 
 /// That a condition is refused, at this place of its text.
 pub fn flawed(flaw: Flaw, at: u32) -> Unread
     ensures { result ≡ Unread.Refused (record { flaw = flaw; at = at }) }
 {
-    Unread::Refused(Refused {
+    Unread::Refused(PlacedFlaw {
         flaw,
         at: at as usize,
     })

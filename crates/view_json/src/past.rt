@@ -12,11 +12,11 @@ use view_cells::picture::Picture;
 use view_past::channels::add_channels;
 use view_past::round::{awaited, is_in_round, next_of};
 use view_past::target::channel_of;
-use view_past::uses::{Use, Uses};
+use view_past::uses::{ChannelUse, Uses};
 use view_past::writers::{Writing, Writings, add_cell_name, add_writing, awaited_writer, reads_of};
 use view_text::writer::Writer;
 use view_tokens::tokens::Json;
-use view_waits::reads::Read;
+use view_waits::reads::ReadValue;
 use view_waits::waits::{Wait, add_waits};
 
 /// Who used each channel last on a walk, and who set each variable last.
@@ -47,7 +47,7 @@ fn lives(json: &mut Json, is_so: bool)
 }
 
 // Writes the last use of a channel, where there was one.
-fn last_use(json: &mut Json, name: &str, used: Option<Use>)
+fn last_use(json: &mut Json, name: &str, used: Option<ChannelUse>)
     ensures { Stays json.old json.new }
 {
     if let Some(used) = used {
@@ -165,7 +165,7 @@ fn cells(
 {
     let reads = reads_of(json.allocator(), picture, wait)?;
     for read in reads.items() {
-        if let Read::Cell(place) = *read {
+        if let ReadValue::Cell(place) = *read {
             if !known.iter().any(|one| *one == place) {
                 known.push(place)?;
                 set(picture, json, place, writings);

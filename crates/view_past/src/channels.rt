@@ -3,7 +3,7 @@
 ghost use Rattle.view_text.specs.Written.{Stays};
 
 use crate::target::channel_of;
-use crate::uses::{Last, Use, Uses};
+use crate::uses::{ChannelUse, LastUses, Uses};
 use std::alloc::AllocError;
 use view_cells::channels::add_channel_word;
 use view_cells::picture::Picture;
@@ -12,7 +12,7 @@ use view_text::writer::Writer;
 use view_waits::waits::Wait;
 
 // Writes who did something: `proc 2 (P) took`.
-fn add_use(picture: &Picture<'_, '_, '_>, used: Use, word: &[u8], out: &mut Writer)
+fn add_use(picture: &Picture<'_, '_, '_>, used: ChannelUse, word: &[u8], out: &mut Writer)
     ensures { Stays out.old out.new }
 {
     if used.lives {
@@ -33,7 +33,7 @@ fn add_step(step: usize, out: &mut Writer)
 }
 
 // Writes who used a channel last.
-fn add_last(picture: &Picture<'_, '_, '_>, last: Last, out: &mut Writer)
+fn add_last(picture: &Picture<'_, '_, '_>, last: LastUses, out: &mut Writer)
     ensures { Stays out.old out.new }
 {
     match (last.sent, last.took) {
@@ -52,7 +52,7 @@ fn add_last(picture: &Picture<'_, '_, '_>, last: Last, out: &mut Writer)
     }
 }
 
-fn add_both(picture: &Picture<'_, '_, '_>, sent: Use, took: Use, out: &mut Writer)
+fn add_both(picture: &Picture<'_, '_, '_>, sent: ChannelUse, took: ChannelUse, out: &mut Writer)
     ensures { Stays out.old out.new }
 {
     if sent.step == took.step {

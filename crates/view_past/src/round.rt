@@ -3,14 +3,14 @@
 ghost use Rattle.view_text.specs.Written.{Stays};
 
 use crate::target::channel_of;
-use crate::uses::{Use, Uses};
+use crate::uses::{ChannelUse, Uses};
 use view_cells::picture::Picture;
 use view_text::writer::Writer;
 use view_waits::because::Because;
 use view_waits::waits::Wait;
 
 // The process of a use, where it lives and is another.
-fn other(used: Option<Use>, process: usize) -> Option<Use> {
+fn other(used: Option<ChannelUse>, process: usize) -> Option<ChannelUse> {
     match used {
         Some(last) if last.lives && last.process != process => Some(last),
         _ => None,
@@ -18,7 +18,7 @@ fn other(used: Option<Use>, process: usize) -> Option<Use> {
 }
 
 // Of two uses the later.
-fn later(one: Option<Use>, two: Option<Use>) -> Option<Use> {
+fn later(one: Option<ChannelUse>, two: Option<ChannelUse>) -> Option<ChannelUse> {
     match (one, two) {
         (Some(one), Some(two)) => {
             if one.step > two.step {

@@ -8,7 +8,7 @@ use view_waits::waits::starter_of;
 
 /// A step that used a channel, and the process that did.
 #[derive(Clone, Copy, Debug, PartialEq, Eq)]
-pub struct Use {
+pub struct ChannelUse {
     pub step: usize,
     pub process: usize,
     /// Whether that process has lived since.
@@ -17,12 +17,12 @@ pub struct Use {
 
 /// The last uses of a channel.
 #[derive(Clone, Copy, Debug, PartialEq, Eq)]
-pub struct Last {
-    pub sent: Option<Use>,
-    pub took: Option<Use>,
+pub struct LastUses {
+    pub sent: Option<ChannelUse>,
+    pub took: Option<ChannelUse>,
 }
 
-const UNUSED: Last = Last {
+const UNUSED: LastUses = LastUses {
     sent: None,
     took: None,
 };
@@ -30,7 +30,7 @@ const UNUSED: Last = Last {
 /// The last uses of each channel.
 #[derive(Drop)]
 pub struct Uses {
-    channels: Vec<Last>,
+    channels: Vec<LastUses>,
 }
 
 fn receiver_of(m: &Move) -> usize {
@@ -40,9 +40,9 @@ fn receiver_of(m: &Move) -> usize {
     }
 }
 
-fn without_dead(used: Option<Use>, count: usize) -> Option<Use> {
+fn without_dead(used: Option<ChannelUse>, count: usize) -> Option<ChannelUse> {
     match used {
-        Some(last) => Some(Use {
+        Some(last) => Some(ChannelUse {
             lives: last.lives && last.process < count,
             ..last
         }),
@@ -59,7 +59,7 @@ impl Uses {
     }
 
     /// Those of the channel with this number, from 1 on.
-    pub fn of(&self, number: usize) -> Last {
+    pub fn of(&self, number: usize) -> LastUses {
         if number == 0 {
             return UNUSED;
         }
@@ -81,12 +81,12 @@ impl Uses {
         if number == 0 || number > self.channels.len() {
             return;
         }
-        let sent = Use {
+        let sent = ChannelUse {
             step,
             process: starter_of(m),
             lives: true,
         };
-        let took = Use {
+        let took = ChannelUse {
             process: receiver_of(m),
             ..sent
         };
@@ -120,7 +120,7 @@ impl Uses {
         self.channels.truncate(channels);
         for at in 0..self.channels.len() {
             let last = self.channels[at];
-            self.channels[at] = Last {
+            self.channels[at] = LastUses {
                 sent: without_dead(last.sent, processes),
                 took: without_dead(last.took, processes),
             };

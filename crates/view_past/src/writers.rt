@@ -14,7 +14,7 @@ use view_cells::picture::Picture;
 use view_cells::processes::{add_name, add_process};
 use view_text::writer::Writer;
 use view_waits::because::Because;
-use view_waits::reads::{Read, Reads, add_reads};
+use view_waits::reads::{ReadValue, Reads, add_reads};
 use view_waits::waits::Wait;
 
 /// A step that wrote a cell, the process that took it, and the number that it left there.
@@ -125,17 +125,17 @@ pub fn reads_of(
 }
 
 /// The cell of the globals that is read.
-pub fn global_of(read: Read) -> Option<Place> {
+pub fn global_of(read: ReadValue) -> Option<Place> {
     match read {
-        Read::Cell(place) if place.frame == 0 => Some(place),
+        ReadValue::Cell(place) if place.frame == 0 => Some(place),
         _ => None,
     }
 }
 
 // The cell that is read, of the globals or of a process.
-fn cell_of(read: Read) -> Option<Place> {
+fn cell_of(read: ReadValue) -> Option<Place> {
     match read {
-        Read::Cell(place) => Some(place),
+        ReadValue::Cell(place) => Some(place),
         _ => None,
     }
 }
@@ -163,7 +163,7 @@ pub fn awaited_writer(
 }
 
 // The process that wrote last what is read, where it lives and is another.
-fn writer_of(read: Read, process: usize, writings: &Writings) -> Option<usize> {
+fn writer_of(read: ReadValue, process: usize, writings: &Writings) -> Option<usize> {
     let writing = writings.of(global_of(read)?)?;
     if writing.lives && writing.process != process {
         Some(writing.process)
@@ -226,7 +226,7 @@ fn has(known: &[Place], place: Place) -> bool {
 // Writes the line of a cell that is read, unless it is known.
 fn add_known(
     picture: &Picture<'_, '_, '_>,
-    read: Read,
+    read: ReadValue,
     writings: &Writings,
     known: &mut Vec<Place>,
     out: &mut Writer,

@@ -2,7 +2,7 @@
 
 use std::alloc::{AllocError, Global};
 use view_session::notes::Notes;
-use view_trail::beside::{Beside, Lines};
+use view_trail::beside::{Beside, UnreadLines};
 use view_walk::leg::Leg;
 
 /// How many steps were taken for lines before this one; `rows` has the line that each was taken for.
@@ -35,7 +35,7 @@ pub fn notes_of(
     cycle: Option<usize>,
 ) -> Result<Notes, AllocError> {
     let mut notes = Notes::of(alloc, legs, cycle)?;
-    let mut lines = Lines::new(text);
+    let mut lines = UnreadLines::new(text);
     let mut before = 0usize;
     for _ in 0..text.len() {
         let Some((row, beside)) = lines.next() else {

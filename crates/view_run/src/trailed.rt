@@ -14,7 +14,7 @@ use view_trail::difference::{Difference, difference_at};
 use view_trail::entry::{Entry, is_ended};
 use view_trail::marks::Marks;
 use view_trail::trail::Trail;
-use view_trail::way::{Way, Ways};
+use view_trail::way::{EntryWay, Ways};
 use view_trail::which::ways_on;
 use view_walk::walk::{Walk, Went};
 
@@ -156,7 +156,12 @@ impl<'s, 't> Lead<'s, 't> {
     }
 
     // Takes a way.
-    fn go(&mut self, walk: &mut Walk<'_, '_>, way: Way<'t>, row: usize) -> Result<Gone, AllocError>
+    fn go(
+        &mut self,
+        walk: &mut Walk<'_, '_>,
+        way: EntryWay<'t>,
+        row: usize,
+    ) -> Result<Gone, AllocError>
         ensures { SameModel walk.old walk.new }
     {
         self.trail = way.trail;

@@ -12,7 +12,7 @@ use crate::past::add_past;
 use crate::question::{add_question, add_whole_question};
 use crate::record::add_record;
 use crate::replay::Along;
-use crate::seeking::Mode;
+use crate::seeking::RunMode;
 use crate::seen::picture_of;
 use crate::showing::show;
 use crate::steps::{Taken, take};
@@ -215,7 +215,7 @@ fn recover(walk: &mut Walk<'_, '_>) -> Result<(), AllocError>
 fn may_cut<'l>(walk: &Walk<'_, '_>, command: Command<'l>) -> bool {
     match command {
         Command::Branch(_) => true,
-        Command::Forward(_) | Command::Run(_) | Command::Until(Mode::Forced, _) => false,
+        Command::Forward(_) | Command::Run(_) | Command::Until(RunMode::Forced, _) => false,
         _ => walk.at() < walk.legs().len(),
     }
 }

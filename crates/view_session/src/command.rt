@@ -3,7 +3,7 @@
 use crate::forms::{behind, with_words};
 use crate::names::name_of;
 use crate::others::told_of;
-use crate::seeking::Mode;
+use crate::seeking::RunMode;
 
 /// How many steps with one move are taken unasked.
 pub const MOST_UNASKED: usize = 100;
@@ -33,7 +33,7 @@ pub enum Command<'l> {
     /// Steps of the process with this number alone.
     Process(usize),
     /// Steps, until one leads where these words say.
-    Until(Mode, &'l str),
+    Until(RunMode, &'l str),
     /// Back to the last state where they say.
     BackUntil(&'l str),
     /// Each run stops where these words say; the numbers of these, and without one.

@@ -2,7 +2,7 @@
 
 use crate::command::{Command, USUAL_RUN};
 use crate::names::Name;
-use crate::seeking::Mode;
+use crate::seeking::RunMode;
 
 fn number(word: &str) -> Option<usize> {
     match word.parse::<usize>() {
@@ -141,11 +141,11 @@ fn seed_in<'l>(rest: &[&'l str]) -> Option<&'l str> {
 fn by_chance<'l>(rest: &[&'l str], text: &'l str) -> Command<'l> {
     let text = behind(text, UNTIL);
     let Some(word) = seed_in(rest) else {
-        return Command::Until(Mode::Chance(1), text);
+        return Command::Until(RunMode::Chance(1), text);
     };
     match (text.strip_suffix(word), number(word)) {
         (Some(condition), Some(seed)) => {
-            Command::Until(Mode::Chance(seed as u64), condition.trim())
+            Command::Until(RunMode::Chance(seed as u64), condition.trim())
         }
         _ => Command::Wrong(RANDOM_FORM),
     }
@@ -214,7 +214,7 @@ fn process<'l>(rest: &[&'l str], text: &'l str) -> Command<'l> {
         },
         [word, more @ ..] if is_until(more) => match number(word) {
             Some(process) => {
-                Command::Until(Mode::Process(process), behind(behind(text, word), UNTIL))
+                Command::Until(RunMode::Process(process), behind(behind(text, word), UNTIL))
             }
             None => Command::Wrong(PROCESS_FORM),
         },
@@ -266,7 +266,7 @@ pub fn with_words<'l>(name: Name, rest: &[&'l str], text: &'l str) -> Command<'l
         Name::Random => random(rest, text),
         Name::Save => save(rest),
         Name::Process => process(rest, text),
-        Name::Until => with_text(Command::Until(Mode::Forced, text), text, UNTIL_FORM),
+        Name::Until => with_text(Command::Until(RunMode::Forced, text), text, UNTIL_FORM),
         Name::Break => with_text(Command::Break(text), text, "break COND, break line L\n"),
         Name::Breaks => alone(Command::Breaks, rest),
         Name::Delete => delete(rest),

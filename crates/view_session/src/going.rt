@@ -6,7 +6,7 @@ ghost use Rattle.view_walk.specs.Walks.{SameModel};
 use crate::command::{Command, USUAL_RUN};
 use crate::listed::add_no_process;
 use crate::question::add_question;
-use crate::seeking::{Mode, go_back_by, go_back_seeking, go_seeking};
+use crate::seeking::{RunMode, go_back_by, go_back_seeking, go_seeking};
 use crate::seen::picture_of;
 use crate::stopped::add_stop;
 use crate::taking::{take_by_chance, take_legs, take_next, take_of, take_run};
@@ -42,7 +42,7 @@ fn go_back_to(walk: &mut Walk<'_, '_>, by: usize, told: &mut Told) -> Result<(),
 fn go_until(
     walk: &mut Walk<'_, '_>,
     limit: usize,
-    mode: Mode,
+    mode: RunMode,
     text: &str,
     told: &mut Told,
 ) -> Result<(), AllocError>
@@ -60,7 +60,7 @@ fn go_until(
 fn go_until_by(
     walk: &mut Walk<'_, '_>,
     limit: usize,
-    mode: Mode,
+    mode: RunMode,
     text: &str,
     told: &mut Told,
 ) -> Result<(), AllocError>
@@ -69,7 +69,7 @@ fn go_until_by(
 {
     let living = walk.world().process_count();
     match mode {
-        Mode::Process(process) if process >= living => {
+        RunMode::Process(process) if process >= living => {
             add_no_process(process, living, &mut told.out);
             Ok(())
         }

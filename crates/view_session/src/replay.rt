@@ -52,18 +52,18 @@ impl Sink for BadLines {
 
 /// Choices that are read, of which nothing is shown.
 #[derive(Drop)]
-pub struct Reading<S> {
+pub struct ReplayReading<S> {
     pub devices: ThreeDevices<S, BadLines, Nowhere>,
     pub stream: Stream,
 }
 
-impl<S: Source> Reading<S> {
+impl<S: Source> ReplayReading<S> {
     /// Nothing was read yet.
-    pub fn new(source: S) -> Reading<S>
+    pub fn new(source: S) -> ReplayReading<S>
         ensures stream { result.stream ≡ Unread }
         ensures source { result.devices.source ≡ source }
     {
-        Reading {
+        ReplayReading {
             devices: ThreeDevices {
                 source,
                 out: BadLines { count: 0 },
@@ -121,7 +121,7 @@ impl Along {
 #[derive(Drop)]
 pub enum Replay<S> {
     /// Those that a source gives.
-    Read(Reading<S>),
+    Read(ReplayReading<S>),
     /// Those that a generator draws.
     Chance(Pcg32),
     /// Those of the walk that are still to come, and behind them this; and what a trail says beside its steps.

@@ -22,7 +22,7 @@ pub const MOST_BY_CHANCE: usize = 1_000_000;
 
 /// How a run goes on.
 #[derive(Clone, Copy, Debug, PartialEq, Eq)]
-pub enum Mode {
+pub enum RunMode {
     /// By steps with one move.
     Forced,
     /// By steps of the process with this number alone.
@@ -194,7 +194,7 @@ fn go_by_chance(
 pub fn go_seeking(
     walk: &mut Walk<'_, '_>,
     limit: usize,
-    mode: Mode,
+    mode: RunMode,
     watch: &mut Watch,
     told: &mut Told,
 ) -> Result<Stopped, AllocError>
@@ -202,9 +202,9 @@ pub fn go_seeking(
     ensures stays { Stays told.old.out told.new.out }
 {
     match mode {
-        Mode::Forced => go_shown(walk, limit, None, watch, told),
-        Mode::Process(process) => go_shown(walk, limit, Some(process), watch, told),
-        Mode::Chance(seed) => go_by_chance(walk, limit, seed, watch, told),
+        RunMode::Forced => go_shown(walk, limit, None, watch, told),
+        RunMode::Process(process) => go_shown(walk, limit, Some(process), watch, told),
+        RunMode::Chance(seed) => go_by_chance(walk, limit, seed, watch, told),
     }
 }
 

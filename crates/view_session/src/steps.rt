@@ -37,7 +37,7 @@ pub fn move_at(moves: &[Move], choice: usize) -> Option<Move>
 
 /// The text of a move, and behind it what the move does with a message, where it does anything.
 #[derive(Drop)]
-pub struct Texts {
+pub struct MoveTexts {
     text: Writer,
     effect: Writer,
 }
@@ -57,18 +57,18 @@ fn add_changes(world: &World<'_, '_>, out: &mut Writer) -> Result<(), AllocError
 }
 
 /// The text of a move of the state where a walk stands, and what it does with a message.
-pub fn texts_of(walk: &Walk<'_, '_>, m: &Move, alloc: Global) -> Result<Texts, AllocError> {
+pub fn texts_of(walk: &Walk<'_, '_>, m: &Move, alloc: Global) -> Result<MoveTexts, AllocError> {
     let picture = picture_of(walk.world());
     let transfer = transfer_of(alloc, &picture, m)?;
     let mut text = Writer::new(alloc);
     add_move(&picture, m, &mut text);
     let mut effect = Writer::new(alloc);
     add_effect(&picture, &transfer, &mut effect);
-    Ok(Texts { text, effect })
+    Ok(MoveTexts { text, effect })
 }
 
 // Writes the number and the text of a step: `step 7: proc 1 (P) line 5 [q ! x] sends (3) to q`.
-fn add_step_text(step: usize, texts: &Texts, out: &mut Writer)
+fn add_step_text(step: usize, texts: &MoveTexts, out: &mut Writer)
     ensures { Stays out.old out.new }
 {
     out.add(b"step ");
@@ -79,7 +79,11 @@ fn add_step_text(step: usize, texts: &Texts, out: &mut Writer)
 }
 
 /// Writes the line of the last step of a walk, which has these texts: `step 7: proc 1 (P) line 5 [x ++] x: 1 -> 2`.
-pub fn add_step_line(walk: &Walk<'_, '_>, texts: &Texts, told: &mut Told) -> Result<(), AllocError>
+pub fn add_step_line(
+    walk: &Walk<'_, '_>,
+    texts: &MoveTexts,
+    told: &mut Told,
+) -> Result<(), AllocError>
     ensures { Stays told.old.out told.new.out }
 {
     add_step_text(walk.at(), texts, &mut told.out);
@@ -101,7 +105,7 @@ pub fn add_notes(walk: &Walk<'_, '_>, told: &mut Told)
 // Writes the last step of a walk: its line, what it printed and what it changed.
 fn add_step(
     walk: &Walk<'_, '_>,
-    texts: &Texts,
+    texts: &MoveTexts,
     printed: &[u8],
     told: &mut Told,
 ) -> Result<(), AllocError>
@@ -161,7 +165,7 @@ pub enum Taken {
 }
 
 // Writes the lines of a step that comes to a fault, and of what that was about.
-fn add_faulted(walk: &Walk<'_, '_>, m: &Move, fault: Fault, texts: &Texts, out: &mut Writer)
+fn add_faulted(walk: &Walk<'_, '_>, m: &Move, fault: Fault, texts: &MoveTexts, out: &mut Writer)
     ensures { Stays out.old out.new }
 {
     add_fault(fault, walk.at().saturating_add(1), &texts.text, out);

@@ -17,8 +17,8 @@ use std::alloc::AllocError;
 use view_cells::cells::{form_at, is_mtype, number_at};
 use view_cells::picture::Picture;
 use view_cells::processes::is_standing_line;
-use view_condition::condition::Condition;
-use view_condition::subject::{Whose, any_at};
+use view_condition::condition::StateCondition;
+use view_condition::subject::{TypedProcess, any_at};
 use view_text::writer::Writer;
 
 /// Where a run is to stop, in the words of a line.
@@ -112,7 +112,7 @@ pub enum Aim {
     /// Behind a step that changed it.
     Written(Cell),
     /// Where this holds.
-    Holds(Condition),
+    Holds(StateCondition),
 }
 
 /// Why a run cannot stop so.
@@ -225,32 +225,32 @@ fn has_number(picture: &Picture<'_, '_, '_>, place: Place, number: i32) -> bool
 
 /// Whether a state is one where a run is to stop.
 #[derive(Clone, Copy, Debug, PartialEq, Eq)]
-pub enum Reached {
+pub enum GoalMet {
     Yes,
     No,
     /// A condition comes to a fault, which counts as not so.
     Fault(Fault),
     /// It reads a variable of a process that is not there, which does too.
-    Absent(Whose),
+    Absent(TypedProcess),
 }
 
-fn reached_if(is_so: bool) -> Reached {
-    if is_so { Reached::Yes } else { Reached::No }
+fn reached_if(is_so: bool) -> GoalMet {
+    if is_so { GoalMet::Yes } else { GoalMet::No }
 }
 
 // Whether a condition holds in a state.
-fn holds(picture: &Picture<'_, '_, '_>, condition: &Condition) -> Reached {
+fn holds(picture: &Picture<'_, '_, '_>, condition: &StateCondition) -> GoalMet {
     match condition.worth(picture) {
         Ok(worth) => reached_if(worth != 0),
         Err(fault) => match condition.absent(picture) {
-            Some(whose) => Reached::Absent(whose),
-            None => Reached::Fault(fault),
+            Some(whose) => GoalMet::Absent(whose),
+            None => GoalMet::Fault(fault),
         },
     }
 }
 
 /// Whether a state is one where a run is to stop.
-pub fn is_reached(world: &World<'_, '_>, aim: &Aim) -> Result<Reached, AllocError> {
+pub fn is_reached(world: &World<'_, '_>, aim: &Aim) -> Result<GoalMet, AllocError> {
     let picture = picture_of(world);
     match aim {
         Aim::Line(line) => Ok(reached_if(any_at(&picture, *line, picture.process_count()))),

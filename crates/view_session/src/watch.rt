@@ -3,12 +3,12 @@
 ghost use Rattle.view_text.specs.Written.{Stays};
 
 use crate::seen::picture_of;
-use crate::until::{Aim, Goal, NoAim, Reached, aim_of, is_reached, wanted};
+use crate::until::{Aim, Goal, GoalMet, NoAim, aim_of, is_reached, wanted};
 use diagnostics::Fault;
 use pml_sim::world::World;
 use std::alloc::{AllocError, Global};
-use view_condition::condition::{Condition, condition_in};
-use view_condition::subject::Whose;
+use view_condition::condition::{StateCondition, condition_in};
+use view_condition::subject::TypedProcess;
 use view_condition::unread::Unread;
 use view_text::writer::Writer;
 
@@ -28,7 +28,7 @@ impl Watch {
     }
 
     /// The condition that it is, where it is one.
-    pub fn condition(&self) -> Option<&Condition> {
+    pub fn condition(&self) -> Option<&StateCondition> {
         match &self.aim {
             Aim::Holds(condition) => Some(condition),
             _ => None,
@@ -122,7 +122,7 @@ pub fn condition_of(
     world: &World<'_, '_>,
     text: &str,
     out: &mut Writer,
-) -> Result<Option<Condition>, AllocError>
+) -> Result<Option<StateCondition>, AllocError>
     ensures { Stays out.old out.new }
 {
     match condition_in(out.allocator(), text.as_bytes(), &picture_of(world)) {
@@ -229,7 +229,7 @@ pub fn add_fault(fault: Fault, out: &mut Writer)
 }
 
 /// Writes that a process is not there.
-pub fn add_absent(world: &World<'_, '_>, whose: Whose, out: &mut Writer)
+pub fn add_absent(world: &World<'_, '_>, whose: TypedProcess, out: &mut Writer)
     ensures { Stays out.old out.new }
 {
     let proctypes = picture_of(world).program().proctypes.as_slice();
@@ -243,7 +243,7 @@ pub fn add_absent(world: &World<'_, '_>, whose: Whose, out: &mut Writer)
 }
 
 // Writes that a fault counts as not so, once.
-fn tell_once(world: &World<'_, '_>, reached: Reached, watch: &mut Watch, out: &mut Writer)
+fn tell_once(world: &World<'_, '_>, reached: GoalMet, watch: &mut Watch, out: &mut Writer)
     ensures { Stays out.old out.new }
 {
     if watch.is_told {
@@ -254,9 +254,9 @@ fn tell_once(world: &World<'_, '_>, reached: Reached, watch: &mut Watch, out: &m
     out.add(watch.words.as_slice());
     out.add(b": ");
     match reached {
-        Reached::Fault(fault) => add_fault(fault, out),
-        Reached::Absent(whose) => add_absent(world, whose, out),
-        Reached::Yes | Reached::No => {}
+        GoalMet::Fault(fault) => add_fault(fault, out),
+        GoalMet::Absent(whose) => add_absent(world, whose, out),
+        GoalMet::Yes | GoalMet::No => {}
     }
     out.add(b"\n");
 }
@@ -266,8 +266,8 @@ pub fn meets(world: &World<'_, '_>, watch: &mut Watch, out: &mut Writer) -> Resu
     ensures { Stays out.old out.new }
 {
     match is_reached(world, &watch.aim)? {
-        Reached::Yes => Ok(true),
-        Reached::No => Ok(false),
+        GoalMet::Yes => Ok(true),
+        GoalMet::No => Ok(false),
         other => {
             tell_once(world, other, watch, out);
             Ok(false)

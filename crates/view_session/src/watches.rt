@@ -8,7 +8,7 @@ use crate::watch::{Watch, add_absent, add_fault, meets};
 use pml_sim::world::World;
 use std::alloc::{AllocError, Global};
 use view_cells::cells::add_value;
-use view_condition::condition::Condition;
+use view_condition::condition::StateCondition;
 use view_text::writer::Writer;
 
 /// So many are kept at most.
@@ -120,7 +120,7 @@ pub fn first_met(
 }
 
 /// Writes what an expression is worth in a state: `x + 1 = 3`.
-pub fn add_worth(world: &World<'_, '_>, words: &[u8], condition: &Condition, out: &mut Writer)
+pub fn add_worth(world: &World<'_, '_>, words: &[u8], condition: &StateCondition, out: &mut Writer)
     ensures { Stays out.old out.new }
 {
     let picture = picture_of(world);

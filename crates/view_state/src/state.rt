@@ -10,7 +10,7 @@ use view_cells::channels::{add_channel, add_message, channel_at};
 use view_cells::picture::Picture;
 use view_cells::processes::{add_process, line_of};
 use view_labels::labels::add_labels;
-use view_text::filled::Filled;
+use view_text::filled::FilledLines;
 use view_text::writer::Writer;
 
 /// Where items begin that stand behind a heading.
@@ -25,7 +25,7 @@ fn add_variable(
     frame: usize,
     variable: usize,
     shown: usize,
-    filled: &mut Filled,
+    filled: &mut FilledLines,
     out: &mut Writer,
 )
     ensures { Stays out.old out.new }
@@ -44,7 +44,7 @@ fn add_variable(
 }
 
 // An item for those that are left out, if there are any.
-fn add_rest(count: usize, filled: &mut Filled, out: &mut Writer)
+fn add_rest(count: usize, filled: &mut FilledLines, out: &mut Writer)
     ensures { Stays out.old out.new }
 {
     if count > 0 {
@@ -59,7 +59,7 @@ fn add_frame(
     picture: &Picture<'_, '_, '_>,
     frame: usize,
     room: &mut Room,
-    filled: &mut Filled,
+    filled: &mut FilledLines,
     out: &mut Writer,
 )
     ensures { Stays out.old out.new }
@@ -77,7 +77,7 @@ fn add_frame(
 fn add_globals(picture: &Picture<'_, '_, '_>, room: &mut Room, out: &mut Writer)
     ensures { Stays out.old out.new }
 {
-    let mut filled = Filled::new(out.len(), 8);
+    let mut filled = FilledLines::new(out.len(), 8);
     out.add(b"global");
     add_frame(picture, 0, room, &mut filled, out);
     out.add(b"\n");
@@ -87,7 +87,7 @@ fn add_messages(
     picture: &Picture<'_, '_, '_>,
     channel: &Channel,
     room: &mut Room,
-    filled: &mut Filled,
+    filled: &mut FilledLines,
     out: &mut Writer,
 )
     ensures { Stays out.old out.new }
@@ -116,7 +116,7 @@ fn add_contents(
         out.add(b"rendezvous");
         return;
     }
-    let mut filled = Filled::new(start, INDENT);
+    let mut filled = FilledLines::new(start, INDENT);
     out.number(channel.len());
     out.add(b" of ");
     out.number(usize::from(channel.capacity()));
@@ -156,7 +156,7 @@ pub fn add_line(picture: &Picture<'_, '_, '_>, process: usize, out: &mut Writer)
 fn add_one_process(picture: &Picture<'_, '_, '_>, process: usize, room: &mut Room, out: &mut Writer)
     ensures { Stays out.old out.new }
 {
-    let mut filled = Filled::new(out.len(), INDENT);
+    let mut filled = FilledLines::new(out.len(), INDENT);
     add_heading(picture, process, out);
     add_line(picture, process, out);
     if picture.holder() == Some(process) {

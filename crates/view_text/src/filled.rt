@@ -9,16 +9,16 @@ const COLUMNS: usize = 80;
 
 /// Items two blanks apart. Where the next would pass the end of a line, a line begins, behind so many blanks.
 #[derive(Drop)]
-pub struct Filled {
+pub struct FilledLines {
     start: usize,
     indent: usize,
     is_first: bool,
 }
 
-impl Filled {
+impl FilledLines {
     /// On the line that begins at `start`, behind whose heading the next item stands.
-    pub fn new(start: usize, indent: usize) -> Filled {
-        Filled {
+    pub fn new(start: usize, indent: usize) -> FilledLines {
+        FilledLines {
             start,
             indent,
             is_first: false,

@@ -23,15 +23,15 @@ fn beside_in(line: &[u8]) -> Option<Beside> {
 
 /// The lines of a file that are still to be read.
 #[derive(Clone, Copy, Debug)]
-pub struct Lines<'t> {
+pub struct UnreadLines<'t> {
     rest: &'t [u8],
     row: usize,
 }
 
-impl<'t> Lines<'t> {
+impl<'t> UnreadLines<'t> {
     /// Those of a whole file.
-    pub fn new(text: &'t [u8]) -> Lines<'t> {
-        Lines { rest: text, row: 0 }
+    pub fn new(text: &'t [u8]) -> UnreadLines<'t> {
+        UnreadLines { rest: text, row: 0 }
     }
 
     // The next line.

@@ -11,7 +11,7 @@ use view_text::writer::Writer;
 
 /// A declaration of one name, as a statement.
 #[derive(Drop)]
-pub struct Declared {
+pub struct Declaring {
     line: usize,
     /// The statement, in one spelling.
     statement: Vec<u8>,
@@ -116,17 +116,17 @@ fn add_statement(tokens: &[Token<'_>], at: usize, out: &mut Writer) -> usize
     }
 }
 
-impl Declared {
+impl Declaring {
     /// That of the name at this token, which is on a line.
     pub fn new(
         tokens: &[Token<'_>],
         at: usize,
         line: usize,
         alloc: Global,
-    ) -> Result<Declared, AllocError> {
+    ) -> Result<Declaring, AllocError> {
         let mut out = Writer::new(alloc);
         let known = add_statement(tokens, at, &mut out);
-        Ok(Declared {
+        Ok(Declaring {
             line,
             statement: out.finish()?,
             known,

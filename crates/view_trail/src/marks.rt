@@ -4,14 +4,14 @@ ghost use Rattle.std.specs.Prelude.{◌≡◌};
 ghost use Rattle.std.specs.List.{slice_get};
 ghost use Rattle.view_trail.specs.Declarations.{types, kind_of, line_of, labels};
 
-use crate::declared::{Declared, is_closing, is_opening};
+use crate::declared::{Declaring, is_closing, is_opening};
 use pml_token::token::{Kind, Token};
 use std::alloc::{AllocError, Global};
 
 /// What is marked of a model.
 #[derive(Drop)]
 pub struct Marks {
-    declared: Vec<Declared>,
+    declared: Vec<Declaring>,
     /// The lines of labels before loops that begin with an assignment, and of these loops.
     labelled: Vec<usize>,
 }
@@ -167,7 +167,7 @@ impl Marks {
             Some(token) if list.is_expected && token.kind() == Kind::Name => {
                 let alloc = *self.declared.allocator();
                 self.declared
-                    .push(Declared::new(tokens, at, token.line() as usize, alloc)?)?;
+                    .push(Declaring::new(tokens, at, token.line() as usize, alloc)?)?;
             }
             _ => {}
         }

@@ -11,14 +11,14 @@ pub struct Said<'t> {
     /// The number of the line that says where a cycle starts.
     pub cycle: Option<usize>,
     /// The place and the text of an assertion that failed.
-    pub failed: Option<Failed<'t>>,
+    pub failed: Option<FailedAssertion<'t>>,
     /// The name of a claim that ended the trail.
     pub claim: Option<&'t [u8]>,
 }
 
 /// An assertion that failed, in the model or in a claim.
 #[derive(Clone, Copy, Debug)]
-pub struct Failed<'t> {
+pub struct FailedAssertion<'t> {
     pub place: &'t [u8],
     pub text: &'t [u8],
     pub is_of_claim: bool,
@@ -62,7 +62,7 @@ impl<'t> Said<'t> {
         if is_cycle(line) {
             self.cycle = Some(row);
         } else if let Some(place) = failed_at(line) {
-            self.failed = Some(Failed {
+            self.failed = Some(FailedAssertion {
                 place,
                 text: b"",
                 is_of_claim: false,
@@ -89,10 +89,10 @@ impl<'t> Said<'t> {
 }
 
 // What a line behind that of an assertion adds to it.
-fn behind_failed<'t>(failed: Failed<'t>, line: &'t [u8]) -> Failed<'t> {
+fn behind_failed<'t>(failed: FailedAssertion<'t>, line: &'t [u8]) -> FailedAssertion<'t> {
     match failed_text(line) {
-        Some(text) => Failed { text, ..failed },
-        None => Failed {
+        Some(text) => FailedAssertion { text, ..failed },
+        None => FailedAssertion {
             is_of_claim: failed.is_of_claim || is_of_claim(line),
             is_step: failed.is_step || parted(line, b"[assert").is_some(),
             ..failed
@@ -120,7 +120,7 @@ pub fn said_in(text: &[u8]) -> Said<'_> {
 }
 
 // Writes which assertion failed.
-fn add_failed(failed: &Failed<'_>, out: &mut Writer)
+fn add_failed(failed: &FailedAssertion<'_>, out: &mut Writer)
     ensures { Stays out.old out.new }
 {
     out.add(b"trail: assertion violated, ");

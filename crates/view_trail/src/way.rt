@@ -8,7 +8,7 @@ use std::marker::Model;
 
 /// A way on: the number of a move, counted from 1, or none, where a line is passed over; and the trail behind it.
 #[derive(Clone, Copy, Debug)]
-pub struct Way<'t> {
+pub struct EntryWay<'t> {
     pub choice: Option<usize>,
     pub trail: Trail<'t>,
 }
@@ -17,7 +17,7 @@ pub struct Way<'t> {
 #[derive(Clone, Copy, Debug)]
 struct Ranked<'t> {
     rank: usize,
-    way: Way<'t>,
+    way: EntryWay<'t>,
 }
 
 /// Ways, the likeliest first.
@@ -55,7 +55,7 @@ impl<'t> Ways<'t> {
     }
 
     /// Adds a way behind those of its rank.
-    pub fn add(&mut self, rank: usize, way: Way<'t>) -> Result<(), AllocError> {
+    pub fn add(&mut self, rank: usize, way: EntryWay<'t>) -> Result<(), AllocError> {
         let at = self.before(rank).min(self.ranked.len());
         self.ranked.insert(at, Ranked { rank, way })?;
         Ok(())
@@ -69,7 +69,7 @@ impl<'t> Ways<'t> {
     }
 
     /// The way with this number, counted from 0.
-    pub fn get(&self, number: usize) -> Option<Way<'t>>
+    pub fn get(&self, number: usize) -> Option<EntryWay<'t>>
         ensures { option_map (λ w. w.choice) result ≡ slice_get self.now number }
     {
         match self.ranked.get(number) {

@@ -10,7 +10,7 @@ use crate::marks::Marks;
 use crate::quiet::{is_of_machine, is_of_spin};
 use crate::select::{Stride, counts_to, stride_of};
 use crate::trail::Trail;
-use crate::way::{Way, Ways};
+use crate::way::{EntryWay, Ways};
 use promela_run::moves::Move;
 use std::alloc::AllocError;
 use view_cells::picture::Picture;
@@ -39,7 +39,7 @@ fn add_fits<'t>(
             let trail = behind(trail, &moves[at], far);
             ways.add(
                 far,
-                Way {
+                EntryWay {
                     choice: Some(at + 1),
                     trail,
                 },
@@ -129,7 +129,7 @@ fn add_counting<'t>(
     match behind_quiet(trail, counts) {
         Some(trail) => ways.add(
             OF_SELECT,
-            Way {
+            EntryWay {
                 choice: Some(choice),
                 trail,
             },
@@ -156,7 +156,7 @@ fn add_passing<'t>(trail: &Trail<'t>, ways: &mut Ways<'t>) -> Result<(), AllocEr
     trail.pass_over();
     ways.add(
         OF_PASSING,
-        Way {
+        EntryWay {
             choice: None,
             trail,
         },
@@ -194,7 +194,7 @@ fn add_quiet<'t>(
         if is_quiet(picture, &moves[at], process, out) {
             ways.add(
                 OF_QUIET,
-                Way {
+                EntryWay {
                     choice: Some(at + 1),
                     trail,
                 },

@@ -9,7 +9,7 @@ use std::alloc::{AllocError, Global};
 
 /// One thing that is read.
 #[derive(Clone, Copy, Debug, PartialEq, Eq)]
-pub enum Read {
+pub enum ReadValue {
     Cell(Place),
     Pid,
     ProcessCount,
@@ -21,7 +21,7 @@ pub enum Read {
 /// What is read, each once, in the order of the text.
 #[derive(Drop)]
 pub struct Reads {
-    items: Vec<Read>,
+    items: Vec<ReadValue>,
     is_refused: bool,
 }
 
@@ -34,7 +34,7 @@ impl Reads {
         }
     }
 
-    fn has(&self, read: Read) -> bool {
+    fn has(&self, read: ReadValue) -> bool {
         for known in self.items.as_slice() {
             if *known == read {
                 return true;
@@ -43,14 +43,14 @@ impl Reads {
         false
     }
 
-    fn keep(&mut self, read: Read) {
+    fn keep(&mut self, read: ReadValue) {
         if !self.has(read) && self.items.push(read).is_err() {
             self.is_refused = true;
         }
     }
 
     /// What is read.
-    pub fn items(&self) -> &[Read] {
+    pub fn items(&self) -> &[ReadValue] {
         self.items.as_slice()
     }
 
@@ -65,7 +65,7 @@ impl Reads {
 
 fn add_cell(target: &Target, view: &View<'_>, reads: &mut Reads) {
     if let Ok(at) = place(target, view) {
-        reads.keep(Read::Cell(at));
+        reads.keep(ReadValue::Cell(at));
     }
 }
 
@@ -74,8 +74,8 @@ fn add_length(target: &Target, view: &View<'_>, reads: &mut Reads) {
     if let Ok(at) = place(target, view) {
         let number = view.number(at);
         reads.keep(match named(view.channels, number) {
-            Some(_) => Read::Length(number),
-            None => Read::Cell(at),
+            Some(_) => ReadValue::Length(number),
+            None => ReadValue::Cell(at),
         });
     }
 }
@@ -115,9 +115,9 @@ fn add_wants(wants: &[Want], view: &View<'_>, reads: &mut Reads) {
 pub fn add_reads(e: &Expr, view: &View<'_>, reads: &mut Reads) {
     match e {
         Expr::Number(_) => {}
-        Expr::Pid => reads.keep(Read::Pid),
-        Expr::ProcessCount => reads.keep(Read::ProcessCount),
-        Expr::Timeout => reads.keep(Read::Timeout),
+        Expr::Pid => reads.keep(ReadValue::Pid),
+        Expr::ProcessCount => reads.keep(ReadValue::ProcessCount),
+        Expr::Timeout => reads.keep(ReadValue::Timeout),
         Expr::Read(target) => add_target(target, view, reads),
         Expr::Ask(_, target) => add_length(target.get(), view, reads),
         Expr::Poll(target, _, wants) => {

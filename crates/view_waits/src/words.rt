@@ -3,7 +3,7 @@
 ghost use Rattle.view_text.specs.Written.{Stays};
 
 use crate::because::Because;
-use crate::reads::{Read, Reads, add_reads};
+use crate::reads::{ReadValue, Reads, add_reads};
 use crate::waits::Wait;
 use pml_channel::channel::Channel;
 use pml_eval::clip::clip;
@@ -43,25 +43,25 @@ fn add_length(picture: &Picture<'_, '_, '_>, number: i32, out: &mut Writer)
 }
 
 /// Writes what is read, with its value: `x = 1`.
-pub fn add_read(picture: &Picture<'_, '_, '_>, view: &View<'_>, read: Read, out: &mut Writer)
+pub fn add_read(picture: &Picture<'_, '_, '_>, view: &View<'_>, read: ReadValue, out: &mut Writer)
     ensures { Stays out.old out.new }
 {
     match read {
-        Read::Cell(place) => add_cell(picture, place, out),
-        Read::Pid => {
+        ReadValue::Cell(place) => add_cell(picture, place, out),
+        ReadValue::Pid => {
             out.add(b"_pid = ");
             out.number(usize::from(view.pid));
         }
-        Read::ProcessCount => {
+        ReadValue::ProcessCount => {
             out.add(b"_nr_pr = ");
             out.number(usize::from(view.process_count));
         }
-        Read::Timeout => out.add(if view.timeout {
+        ReadValue::Timeout => out.add(if view.timeout {
             b"timeout = 1"
         } else {
             b"timeout = 0"
         }),
-        Read::Length(number) => add_length(picture, number, out),
+        ReadValue::Length(number) => add_length(picture, number, out),
     }
 }
 

@@ -2,7 +2,7 @@
 
 /// What is shown without a session.
 #[derive(Clone, Copy, Debug, PartialEq, Eq)]
-pub enum Form {
+pub enum RunForm {
     /// Nothing: there is a session.
     Session,
     Json,
@@ -11,7 +11,7 @@ pub enum Form {
 
 /// What a command line asks for.
 #[derive(Debug, Drop)]
-pub struct Asked {
+pub struct Wishes {
     /// The file of the model.
     pub model: String,
     /// What the model is called.
@@ -38,7 +38,7 @@ pub struct Asked {
     pub page: Option<String>,
     /// The seed of the generator that answers questions.
     pub seed: Option<u32>,
-    pub form: Form,
+    pub form: RunForm,
     /// Whether lines are read that go on with a run, each answered by lines of JSON.
     pub asks: bool,
     /// The step behind which lines of JSON begin.
@@ -53,7 +53,7 @@ pub struct Asked {
     pub explains: bool,
 }
 
-impl Asked {
+impl Wishes {
     /// Whether the options of preparing fit together: the files of another that prepared the model are of no use beside it.
     pub fn fits_together(&self) -> bool {
         if self.prepare {

@@ -5,5 +5,5 @@ mod asked;
 mod help;
 mod words;
 
-pub use asked::{Asked, Form};
+pub use asked::{RunForm, Wishes};
 pub use words::read;

@@ -1,6 +1,6 @@
 //! The words of the command line.
 
-use crate::asked::{Asked, Form};
+use crate::asked::{RunForm, Wishes};
 use crate::help::{HELP, VERSION};
 use clap::{Arg, ArgAction, ArgMatches, Command, Error, value_parser};
 use std::alloc::{AllocError, Global};
@@ -143,20 +143,20 @@ fn texts_of(alloc: Global, matches: &ArgMatches<'_>, id: &str) -> Result<Vec<Str
     Ok(all)
 }
 
-fn form_of(matches: &ArgMatches<'_>) -> Form {
+fn form_of(matches: &ArgMatches<'_>) -> RunForm {
     let goes_on = matches.get_count("ask") > 0 || matches.get_count("serve") > 0;
     let is_behind = matches.get_one::<u32>("from").is_some();
     if matches.get_count("json") > 0 || goes_on || is_behind {
-        Form::Json
+        RunForm::Json
     } else if matches.get_count("chart") > 0 {
-        Form::Chart
+        RunForm::Chart
     } else {
-        Form::Session
+        RunForm::Session
     }
 }
 
 /// What the words of a command line ask for. The first word is the program's name.
-pub fn read<'a>(alloc: Global, words: &'a [&'a str]) -> Result<Asked, Error> {
+pub fn read<'a>(alloc: Global, words: &'a [&'a str]) -> Result<Wishes, Error> {
     let matches = command(alloc)?.try_get_matches_from(words)?;
     let model = String::from_str(alloc, matches.get_str("MODEL").unwrap_or(""))?;
     let choices = text_of(alloc, &matches, "choices")?;
@@ -168,7 +168,7 @@ pub fn read<'a>(alloc: Global, words: &'a [&'a str]) -> Result<Asked, Error> {
     let lines = text_of(alloc, &matches, "lines")?;
     let defines = texts_of(alloc, &matches, "D")?;
     let folders = texts_of(alloc, &matches, "I")?;
-    Ok(Asked {
+    Ok(Wishes {
         model,
         name,
         source,

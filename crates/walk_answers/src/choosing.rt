@@ -3,7 +3,7 @@
 ghost use Rattle.std.specs.Prelude.{length};
 ghost use Rattle.walk_answers.specs.Choosing.{IsOfMoves, IsNumber};
 
-use crate::halt::Halt;
+use crate::halt::RunHalt;
 use promela_run::moves::Move;
 use rand_core::utils::NextWord;
 use rand_pcg::Pcg32;
@@ -24,10 +24,10 @@ pub enum Choosing {
 
 /// What follows where a run stands.
 #[derive(Clone, Copy, Debug, PartialEq, Eq)]
-pub enum Next {
+pub enum FollowingMove {
     /// The move with this number, from 1.
     Take(usize),
-    Stop(Halt),
+    Stop(RunHalt),
 }
 
 // The number of the first move in which a process takes part, from 1.
@@ -42,13 +42,13 @@ fn first_of(moves: &[Move], process: usize) -> Option<usize>
     None
 }
 
-fn of_process(moves: &[Move], process: usize) -> Next
+fn of_process(moves: &[Move], process: usize) -> FollowingMove
     ensures { IsOfMoves (length moves.now) result }
 {
     match first_of(moves, process) {
-        Some(first) if moves_of(process, moves) == 1 => Next::Take(first),
-        Some(_) => Next::Stop(Halt::Choice),
-        None => Next::Stop(Halt::Blocked(process)),
+        Some(first) if moves_of(process, moves) == 1 => FollowingMove::Take(first),
+        Some(_) => FollowingMove::Stop(RunHalt::Choice),
+        None => FollowingMove::Stop(RunHalt::Blocked(process)),
     }
 }
 
@@ -59,19 +59,19 @@ impl Choosing {
     }
 
     /// What follows where there are these moves.
-    pub fn next(&mut self, moves: &[Move]) -> Next
+    pub fn next(&mut self, moves: &[Move]) -> FollowingMove
         ensures { IsOfMoves (length moves.now) result }
     {
         if moves.is_empty() {
-            return Next::Stop(Halt::End);
+            return FollowingMove::Stop(RunHalt::End);
         }
         match self {
             Choosing::Process(process) => of_process(moves, *process),
-            _ if moves.len() == 1 => Next::Take(1),
-            Choosing::Ask => Next::Stop(Halt::Choice),
-            Choosing::First => Next::Take(1),
+            _ if moves.len() == 1 => FollowingMove::Take(1),
+            Choosing::Ask => FollowingMove::Stop(RunHalt::Choice),
+            Choosing::First => FollowingMove::Take(1),
             Choosing::Chance(generator) => {
-                Next::Take(generator.next_word() as usize % moves.len() + 1)
+                FollowingMove::Take(generator.next_word() as usize % moves.len() + 1)
             }
         }
     }

@@ -2,7 +2,7 @@
 
 /// Why a run stopped.
 #[derive(Clone, Copy, Debug, PartialEq, Eq)]
-pub enum Halt {
+pub enum RunHalt {
     /// Where one of several moves is to be chosen.
     Choice,
     /// Where this process has no move.
@@ -19,17 +19,17 @@ pub enum Halt {
     Limit,
 }
 
-impl Halt {
+impl RunHalt {
     /// Its name.
     pub fn words(self) -> &'static str {
         match self {
-            Halt::Choice => "choice",
-            Halt::Blocked(_) => "blocked",
-            Halt::End => "end",
-            Halt::Faulted => "fault",
-            Halt::Met => "met",
-            Halt::Steps => "steps",
-            Halt::Limit => "step limit",
+            RunHalt::Choice => "choice",
+            RunHalt::Blocked(_) => "blocked",
+            RunHalt::End => "end",
+            RunHalt::Faulted => "fault",
+            RunHalt::Met => "met",
+            RunHalt::Steps => "steps",
+            RunHalt::Limit => "step limit",
         }
     }
 }

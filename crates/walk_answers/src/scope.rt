@@ -11,7 +11,7 @@ use source_lines::position::between;
 use std::alloc::{AllocError, Global};
 use view_cells::picture::Picture;
 use view_cells::processes::proctype_of;
-use view_condition::condition::{Condition, condition_in};
+use view_condition::condition::{StateCondition, condition_in};
 use view_condition::unread::Unread;
 use view_text::writer::Writer;
 
@@ -106,7 +106,7 @@ fn read_by(
     reader: Reader<'_, '_>,
     text: &[u8],
     out: &mut Writer,
-) -> Result<Option<Condition>, AllocError>
+) -> Result<Option<StateCondition>, AllocError>
     ensures { Stays out.old out.new }
 {
     let whole = text_read_by(out.allocator(), reader, text)?;
@@ -126,7 +126,7 @@ pub fn condition_of(
     process: usize,
     text: &[u8],
     out: &mut Writer,
-) -> Result<Option<Condition>, AllocError>
+) -> Result<Option<StateCondition>, AllocError>
     ensures { Stays out.old out.new }
 {
     let reader = Reader {

@@ -2,22 +2,22 @@
 
 ghost use Rattle.view_walk.specs.Walks.{SameModel};
 
-use crate::lines::{Standing, add_error, add_question, add_record, add_why};
+use crate::lines::{WalkStanding, add_error, add_question, add_record, add_why};
 use devices::SliceSource;
 use rand_pcg::Pcg32;
 use session::Broken;
 use std::alloc::AllocError;
-use view_condition::condition::Condition;
+use view_condition::condition::StateCondition;
 use view_json::lines::add_start;
 use view_run::lines::{Sheet, add_next};
-use view_session::replay::{Reading, Replay};
+use view_session::replay::{Replay, ReplayReading};
 use view_session::seen::picture_of;
 use view_session::watch::condition_of;
 use view_text::writer::Writer;
 use view_walk::walk::Walk;
-use walk_answers::choosing::{Choosing, Next};
+use walk_answers::choosing::{Choosing, FollowingMove};
 use walk_answers::going::{back, go_to};
-use walk_answers::halt::Halt;
+use walk_answers::halt::RunHalt;
 use walk_answers::request::{By, Request};
 
 /// So many steps are taken at most until a condition holds.
@@ -25,7 +25,7 @@ pub const MOST_UNTIL: usize = 10_000;
 
 /// What the lines call the model, whether it loses messages, and how many steps a walk may have.
 #[derive(Clone, Copy)]
-pub struct Setting<'s> {
+pub struct LinesSetting<'s> {
     pub name: &'s str,
     pub is_lossy: bool,
     pub limit: usize,
@@ -33,9 +33,9 @@ pub struct Setting<'s> {
 
 /// Steps that are still to be taken, each by `go_on`.
 #[derive(Drop)]
-pub struct Run {
+pub struct PendingSteps {
     choosing: Choosing,
-    until: Option<Condition>,
+    until: Option<StateCondition>,
     left: usize,
 }
 
@@ -45,7 +45,7 @@ pub enum Answered {
     /// The question.
     Question,
     /// Steps, and then the question.
-    Steps(Run),
+    Steps(PendingSteps),
     /// Nothing: it was wrong, which is said.
     Wrong,
 }
@@ -59,7 +59,7 @@ fn wrong(words: &[u8], sheet: &mut Sheet) -> Answered {
 /// Writes the state where a walk stands, from which on steps are told.
 pub fn add_state(
     walk: &Walk<'_, '_>,
-    setting: Setting<'_>,
+    setting: LinesSetting<'_>,
     sheet: &mut Sheet,
 ) -> Result<(), AllocError> {
     let moves = walk.moves()?;
@@ -98,14 +98,14 @@ fn add_ending(walk: &mut Walk<'_, '_>, sheet: &mut Sheet) -> Result<(), AllocErr
 /// Writes the question where a walk stands; where no move is left, behind how the run ends.
 pub fn ask(
     walk: &mut Walk<'_, '_>,
-    stopped: Option<Halt>,
+    stopped: Option<RunHalt>,
     sheet: &mut Sheet,
 ) -> Result<(), AllocError>
     ensures { SameModel walk.old walk.new }
 {
     add_ending(walk, sheet)?;
     let moves = walk.moves()?;
-    let place = Standing {
+    let place = WalkStanding {
         at: walk.at(),
         of: walk.legs().len(),
     };
@@ -122,7 +122,7 @@ fn take(walk: &mut Walk<'_, '_>, choice: usize, sheet: &mut Sheet) -> Result<boo
     line.number(choice);
     line.add(b"\n");
     let line = line.finish()?;
-    let mut replay = Replay::Read(Reading::new(SliceSource::new(line.as_slice())));
+    let mut replay = Replay::Read(ReplayReading::new(SliceSource::new(line.as_slice())));
     match add_next(walk, &mut replay, usize::MAX, sheet) {
         Ok(end) => Ok(end.is_some()),
         Err(broken) => Err(without_device(broken)),
@@ -186,7 +186,7 @@ fn until(
 ) -> Result<Answered, AllocError> {
     let mut words = Writer::new(sheet.lines.allocator());
     match condition_of(walk.world(), text, &mut words)? {
-        Some(condition) => Ok(Answered::Steps(Run {
+        Some(condition) => Ok(Answered::Steps(PendingSteps {
             choosing: choosing_by(by),
             until: Some(condition),
             left: MOST_UNTIL,
@@ -201,7 +201,7 @@ fn until(
 // Answers what only shows.
 fn show(
     walk: &Walk<'_, '_>,
-    setting: Setting<'_>,
+    setting: LinesSetting<'_>,
     request: &Request,
     sheet: &mut Sheet,
 ) -> Result<Answered, AllocError> {
@@ -209,7 +209,7 @@ fn show(
         Request::Why(process) => return why(walk, *process, sheet),
         Request::Until(text, by) => return until(walk, text.as_str(), *by, sheet),
         Request::On(most) => {
-            return Ok(Answered::Steps(Run {
+            return Ok(Answered::Steps(PendingSteps {
                 choosing: Choosing::Ask,
                 until: None,
                 left: *most,
@@ -225,7 +225,7 @@ fn show(
 /// Answers a request, up to the question or to steps that are still to be taken.
 pub fn answer(
     walk: &mut Walk<'_, '_>,
-    setting: Setting<'_>,
+    setting: LinesSetting<'_>,
     request: &Request,
     sheet: &mut Sheet,
 ) -> Result<Answered, AllocError>
@@ -242,7 +242,7 @@ pub fn answer(
 }
 
 // Whether a condition holds where a walk stands; one with a fault does not.
-fn holds(walk: &Walk<'_, '_>, condition: &Option<Condition>) -> bool {
+fn holds(walk: &Walk<'_, '_>, condition: &Option<StateCondition>) -> bool {
     match condition {
         Some(condition) => match condition.worth(&picture_of(walk.world())) {
             Ok(worth) => worth != 0,
@@ -256,17 +256,17 @@ fn holds(walk: &Walk<'_, '_>, condition: &Option<Condition>) -> bool {
 fn step(
     walk: &mut Walk<'_, '_>,
     choice: usize,
-    run: &mut Run,
+    run: &mut PendingSteps,
     sheet: &mut Sheet,
-) -> Result<Option<Halt>, AllocError>
+) -> Result<Option<RunHalt>, AllocError>
     ensures { SameModel walk.old walk.new }
 {
     if take(walk, choice, sheet)? {
-        return Ok(Some(Halt::Faulted));
+        return Ok(Some(RunHalt::Faulted));
     }
     run.left = run.left.saturating_sub(1);
     if holds(walk, &run.until) {
-        return Ok(Some(Halt::Met));
+        return Ok(Some(RunHalt::Met));
     }
     Ok(None)
 }
@@ -275,18 +275,18 @@ fn step(
 pub fn go_on(
     walk: &mut Walk<'_, '_>,
     limit: usize,
-    run: &mut Run,
+    run: &mut PendingSteps,
     sheet: &mut Sheet,
-) -> Result<Option<Halt>, AllocError>
+) -> Result<Option<RunHalt>, AllocError>
     ensures { SameModel walk.old walk.new }
 {
     if run.left == 0 {
-        return Ok(Some(Halt::Steps));
+        return Ok(Some(RunHalt::Steps));
     }
     let moves = walk.moves()?;
     match run.choosing.next(moves.as_slice()) {
-        Next::Stop(halt) => Ok(Some(halt)),
-        Next::Take(_) if walk.at() >= limit => Ok(Some(Halt::Limit)),
-        Next::Take(choice) => step(walk, choice, run, sheet),
+        FollowingMove::Stop(halt) => Ok(Some(halt)),
+        FollowingMove::Take(_) if walk.at() >= limit => Ok(Some(RunHalt::Limit)),
+        FollowingMove::Take(choice) => step(walk, choice, run, sheet),
     }
 }

@@ -16,7 +16,7 @@ use view_json::process::standing;
 use view_text::writer::Writer;
 use view_tokens::tokens::Json;
 use view_walk::leg::Leg;
-use walk_answers::halt::Halt;
+use walk_answers::halt::RunHalt;
 use walk_answers::seen::moves_in;
 
 // Ends a line.
@@ -30,7 +30,7 @@ fn end(json: Json, out: &mut Writer)
 }
 
 // Writes why a run stopped where a walk stands.
-fn add_stopped(json: &mut Json, stopped: Option<Halt>)
+fn add_stopped(json: &mut Json, stopped: Option<RunHalt>)
     ensures { Stays json.old json.new }
 {
     if let Some(halt) = stopped {
@@ -41,7 +41,7 @@ fn add_stopped(json: &mut Json, stopped: Option<Halt>)
 
 /// Where a walk stands: behind so many steps, of so many.
 #[derive(Clone, Copy, Debug, PartialEq, Eq)]
-pub struct Standing {
+pub struct WalkStanding {
     pub at: usize,
     pub of: usize,
 }
@@ -50,8 +50,8 @@ pub struct Standing {
 pub fn add_question(
     picture: &Picture<'_, '_, '_>,
     moves: &[Move],
-    place: Standing,
-    stopped: Option<Halt>,
+    place: WalkStanding,
+    stopped: Option<RunHalt>,
     out: &mut Writer,
 )
     ensures { KeepsRefusal out.old out.new }

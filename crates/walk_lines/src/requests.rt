@@ -12,7 +12,7 @@ pub const MOST_LINE: usize = 65_536;
 
 /// Why a line is no request.
 #[derive(Clone, Copy, Debug, PartialEq, Eq)]
-pub enum Unread {
+pub enum UnreadRequest {
     Memory,
     /// It has too many bytes.
     Long,
@@ -24,29 +24,29 @@ pub enum Unread {
     NoFit,
 }
 
-impl Unread {
+impl UnreadRequest {
     /// What is said of it.
     pub fn words(self) -> &'static str {
         match self {
-            Unread::Memory => "out of memory",
-            Unread::Long => "a line has 65536 bytes at most",
-            Unread::NoJson => "no JSON",
-            Unread::NoRequest => {
+            UnreadRequest::Memory => "out of memory",
+            UnreadRequest::Long => "a line has 65536 bytes at most",
+            UnreadRequest::NoJson => "no JSON",
+            UnreadRequest::NoRequest => {
                 "no request: take, back, goto, on, until, why, state, moves, record"
             }
-            Unread::NoFit => "a number, a condition or true is wanted there",
+            UnreadRequest::NoFit => "a number, a condition or true is wanted there",
         }
     }
 }
 
-impl From<AllocError> for Unread {
+impl From<AllocError> for UnreadRequest {
     ghost use Rattle.std.specs.Prelude.{◌≡◌};
-    ghost use Rattle.walk_lines.specs.declared.requests.Unread.TheVariants.{Memory};
+    ghost use Rattle.walk_lines.specs.declared.requests.UnreadRequest.TheVariants.{Memory};
 
     ghost from_gives = { λ _ f. f ≡ Memory };
 
-    fn from(_error: AllocError) -> Unread {
-        Unread::Memory
+    fn from(_error: AllocError) -> UnreadRequest {
+        UnreadRequest::Memory
     }
 }
 
@@ -64,34 +64,34 @@ fn is_true(value: &Value) -> bool {
     matches!(value.as_bool(), Some(true))
 }
 
-fn with_number(value: &Value) -> Result<usize, Unread> {
+fn with_number(value: &Value) -> Result<usize, UnreadRequest> {
     match number_of(value) {
         Some(number) => Ok(number),
-        None => Err(Unread::NoFit),
+        None => Err(UnreadRequest::NoFit),
     }
 }
 
 // A request that `true` stands behind.
-fn if_true(value: &Value, request: Request) -> Result<Request, Unread> {
+fn if_true(value: &Value, request: Request) -> Result<Request, UnreadRequest> {
     if is_true(value) {
         Ok(request)
     } else {
-        Err(Unread::NoFit)
+        Err(UnreadRequest::NoFit)
     }
 }
 
 // How a run goes on until a condition holds, and how many members say so.
-fn by_of(message: &Value) -> Result<(By, usize), Unread> {
+fn by_of(message: &Value) -> Result<(By, usize), UnreadRequest> {
     match (message.get("process"), message.get("random")) {
         (None, None) => Ok((By::Forced, 1)),
         (Some(process), None) => Ok((By::Process(with_number(process)?), 2)),
         (None, Some(seed)) => Ok((By::Chance(with_number(seed)? as u64), 2)),
-        (Some(_), Some(_)) => Err(Unread::NoFit),
+        (Some(_), Some(_)) => Err(UnreadRequest::NoFit),
     }
 }
 
 // The request that its only member is.
-fn simple_of(name: &str, value: &Value) -> Result<Request, Unread> {
+fn simple_of(name: &str, value: &Value) -> Result<Request, UnreadRequest> {
     match name {
         "take" => Ok(Request::Take(with_number(value)?)),
         "back" => Ok(Request::Back(with_number(value)?)),
@@ -102,12 +102,12 @@ fn simple_of(name: &str, value: &Value) -> Result<Request, Unread> {
         "state" => if_true(value, Request::State),
         "moves" => if_true(value, Request::Moves),
         "record" => if_true(value, Request::Record),
-        _ => Err(Unread::NoRequest),
+        _ => Err(UnreadRequest::NoRequest),
     }
 }
 
 // The request whose condition this is.
-fn until_of(alloc: Global, text: &str, by: By) -> Result<Request, Unread> {
+fn until_of(alloc: Global, text: &str, by: By) -> Result<Request, UnreadRequest> {
     let text = String::from_str(alloc, text)?;
     Ok(Request::Until(text, by))
 }
@@ -121,33 +121,33 @@ fn only_of(members: &Map<String, Value>) -> Option<(&str, &Value)> {
 }
 
 // The request that a value is.
-fn of_value(alloc: Global, message: &Value) -> Result<Request, Unread> {
+fn of_value(alloc: Global, message: &Value) -> Result<Request, UnreadRequest> {
     let Some(members) = message.as_object() else {
-        return Err(Unread::NoRequest);
+        return Err(UnreadRequest::NoRequest);
     };
     if let Some(condition) = message.get("until") {
         let (by, count) = by_of(message)?;
         return match condition.as_str() {
             Some(text) if members.len() == count => until_of(alloc, text, by),
-            _ => Err(Unread::NoFit),
+            _ => Err(UnreadRequest::NoFit),
         };
     }
     match only_of(members) {
         Some((name, value)) if members.len() == 1 => simple_of(name, value),
-        _ => Err(Unread::NoRequest),
+        _ => Err(UnreadRequest::NoRequest),
     }
 }
 
 /// The request that a line is.
-pub fn request_of(alloc: Global, line: &[u8]) -> Result<Request, Unread>
+pub fn request_of(alloc: Global, line: &[u8]) -> Result<Request, UnreadRequest>
     ensures { IfOk result (λ r. length line.now ≤ MOST_LINE) }
 {
     if line.len() > MOST_LINE {
-        return Err(Unread::Long);
+        return Err(UnreadRequest::Long);
     }
     match Value::from_slice(alloc, line) {
         Ok(message) => of_value(alloc, &message),
-        Err(error) if error.is_memory() => Err(Unread::Memory),
-        Err(_) => Err(Unread::NoJson),
+        Err(error) if error.is_memory() => Err(UnreadRequest::Memory),
+        Err(_) => Err(UnreadRequest::NoJson),
     }
 }

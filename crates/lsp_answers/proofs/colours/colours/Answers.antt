@@ -2,12 +2,12 @@ use Rattle.std.proofs.Common.{◌≡◌, sym, subst, Option, Some, IfSome}
 use Rattle.serde_json.specs.View.{view}
 use Rattle.serde_json.specs.declared.value.Value.{Value}
 use Rattle.lsp_results.specs.declared.page.Page.{Page}
-use Rattle.lsp_results.specs.declared.colours.Part.{Part}
+use Rattle.lsp_results.specs.declared.colours.AskedPart.{AskedPart}
 use Rattle.lsp_results.specs.Tokens.{AreColours}
 use Rattle.lsp_answers.specs.Colours.{AreTold, colours}
 use Rattle.lsp_answers.proofs.colours.colours.Goals as goal
 
-told_by : (page : Page) (part : Part) (o : Option Value) (v : Value) → o ≡ Some v → IfSome o (λ x. AreColours page part (view x)) → AreColours page part (view v)
+told_by : (page : Page) (part : AskedPart) (o : Option Value) (v : Value) → o ≡ Some v → IfSome o (λ x. AreColours page part (view x)) → AreColours page part (view v)
 told_by page part o v is h = subst (λ (x : Option Value). IfSome x (λ y. AreColours page part (view y))) is h
 
 pub returns-in-Some-2 : goal.returns-in-Some-2

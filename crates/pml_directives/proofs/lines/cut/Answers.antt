@@ -1,6 +1,6 @@
 use Rattle.std.proofs.Common.{◌≡◌, ◌∙◌, ◌+◌, ap, sym, drop, length, arith}
 use Rattle.std.proofs.lemmas.List.{drop-drop}
-use Rattle.pml_directives.specs.declared.lines.Line.{Line}
+use Rattle.pml_directives.specs.declared.lines.AtomLine.{AtomLine}
 use Rattle.pml_directives.proofs.Standing.{all_stand_still, stand_still, one_more, one_line, same_stand, same_lines, none_stand, token_stands}
 use Rattle.pml_directives.proofs.lines.cut.Goals as goal
 use Rattle.pml_directives.proofs.lines.cut.Goals.{in-Blank, in-LineFeed+in_ok-push-in-LineFeed, in-Token+in_ok-number-in-Token+in_ok-push-in-Token}
@@ -27,7 +27,7 @@ loop-rest-preserved c =
         atoms = same_stand old new bytes places end c.loop-rest.atoms.items c.match-lexeme.atoms.items w.book-is (ap (λ v. v.items) w.atoms-is) c.loop-rest.invariant.atoms;
       }
       | in-LineFeed+in_ok-push-in-LineFeed w ↦
-          let l : Line = record { atoms = c.loop-rest.atoms; end = c.place_at-place.result } in
+          let l : AtomLine = record { atoms = c.loop-rest.atoms; end = c.place_at-place.result } in
           record {
             here = here;
             long = long;

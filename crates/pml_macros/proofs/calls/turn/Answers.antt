@@ -1,5 +1,5 @@
 use Rattle.std.proofs.Common.{◌∙◌, sym, reverse}
-use Rattle.pml_macros.specs.declared.calls.Standing.TheVariants.{Object}
+use Rattle.pml_macros.specs.declared.calls.AtomStanding.TheVariants.{Object}
 use Rattle.pml_macros.specs.Calls.{known, painted, stays, is_painted}
 use Rattle.pml_macros.proofs.Reading.{came_out, known_if, object_read}
 use Rattle.pml_macros.proofs.calls.turn.Goals as goal

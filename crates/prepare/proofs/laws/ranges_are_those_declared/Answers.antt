@@ -1,4 +1,4 @@
-use Rattle.prepare.specs.declared.changes.Head.TheVariants.{Outside}
+use Rattle.prepare.specs.declared.changes.PhraseHead.TheVariants.{Outside}
 use Rattle.prepare.specs.Stretches.{stretches}
 use Rattle.prepare.specs.Sizes.{declared}
 use Rattle.prepare.proofs.Ranging.{ranges_by}

@@ -1,6 +1,0 @@
--- what was said before the loop stays
-use Rattle.explain.specs.Said.{Keeps}
-use Rattle.explain.proofs.message.Message.character.Given as goal
-
-abbrev pub invariant-loop-turn : goal.invariant-loop-turn
-invariant-loop-turn l = Keeps l.fn.self l.self

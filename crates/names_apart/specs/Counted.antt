@@ -1,6 +1,0 @@
--- How often an inline declares a name, as contracts see it.
-use Rattle.std.specs.Prelude.{ℕ, List}
-
-pub record Counted : Type 0 where
-  pub inline : List ℕ
-  pub count : ℕ
