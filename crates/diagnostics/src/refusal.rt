@@ -1,6 +1,6 @@
 //! Why a model is refused.
 ghost use Rattle.std.specs.Prelude.{◌≡◌};
-ghost use Rattle.diagnostics.specs.Words.{refusal_number, refusal_words};
+ghost use Rattle.diagnostics.specs.Numbers.{refusal_number};
 
 /// Why a model is refused, in the order in which refusals go before one another: of those that apply, the first is
 /// answered. The numbers are this program's own.
@@ -72,33 +72,6 @@ impl Refusal {
             Refusal::TooManyAtStart => 17,
             Refusal::Initialiser => 18,
             Refusal::Inline => 19,
-        }
-    }
-
-    /// What it is, as a refusal's line says it.
-    pub fn words(self) -> &'static [u8]
-        ensures { result.now ≡ refusal_words self }
-    {
-        match self {
-            Refusal::TextTooLong => b"text too long",
-            Refusal::Lexical => b"lexical",
-            Refusal::LeftOut => b"left out",
-            Refusal::TooDeep => b"too deep",
-            Refusal::Syntax => b"syntax",
-            Refusal::NameTwice => b"name twice",
-            Refusal::UnknownName => b"unknown name",
-            Refusal::WrongKind => b"wrong kind",
-            Refusal::ArgumentCount => b"wrong number of arguments",
-            Refusal::Label => b"label",
-            Refusal::BreakOutsideDo => b"break outside do",
-            Refusal::DStep => b"d_step",
-            Refusal::CircleOfGotos => b"circle of gotos",
-            Refusal::NumberOutOfRange => b"number out of range",
-            Refusal::TooManyCells => b"too many cells",
-            Refusal::NoProcess => b"no process",
-            Refusal::TooManyAtStart => b"too many at the start",
-            Refusal::Initialiser => b"initialiser",
-            Refusal::Inline => b"inline",
         }
     }
 }

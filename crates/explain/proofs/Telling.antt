@@ -6,7 +6,7 @@ use Rattle.std.specs.Char.{encode_utf8}
 use Rattle.std.proofs.lemmas.Str.{IsUtf8-from_is_utf8}
 use Rattle.diagnostics.specs.declared.refusal.Refusal.{Refusal}
 use Rattle.diagnostics.specs.declared.refusal.Refusal.TheVariants as r
-use Rattle.diagnostics.specs.Words.{refusal_words}
+use Rattle.diagnostic_words.specs.Words.{refusal_words}
 use Rattle.explain_cause.specs.declared.cause.Segment.{Segment}
 use Rattle.explain_find.specs.Told.{IsTold}
 use Rattle.source_lines.specs.Places.{shown_offset, number_at, start_at, line_at}

@@ -4,7 +4,8 @@ use Rattle.std.specs.Prelude.{◌≡◌, ◌<◌, ℕ, ◌-◌, List, [], ◌++�
 use Rattle.std.specs.List.{flat_map}
 use Rattle.std.specs.Fmt.{decimal}
 use Rattle.diagnostics.specs.declared.refusal.Refusal.{Refusal}
-use Rattle.diagnostics.specs.Words.{refusal_number, refusal_words}
+use Rattle.diagnostics.specs.Numbers.{refusal_number}
+use Rattle.diagnostic_words.specs.Words.{refusal_words}
 use Rattle.explain_cause.specs.declared.cause.Segment.{Segment}
 use Rattle.explain_find.specs.Told.{IsTold}
 use Rattle.source_lines.specs.Signs.{shown_character}

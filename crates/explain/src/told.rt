@@ -1,7 +1,7 @@
 //! What is written of a place that is told, and of the refusal.
 
 ghost use Rattle.std.specs.Prelude.{◌≡◌, ◌++◌, IfOk, OnOk, string_bytes};
-ghost use Rattle.diagnostics.specs.Words.{refusal_words};
+ghost use Rattle.diagnostic_words.specs.Words.{refusal_words};
 ghost use Rattle.source_lines.specs.Seen.{sight_of};
 ghost use Rattle.explain.specs.Explained.{shown_name, said, column_said, lines_shown, told_of, TellsPlace};
 ghost use Rattle.explain.specs.Request.{request_of};
@@ -29,7 +29,7 @@ pub struct RefusedText<'t> {
 fn push_words(out: &mut String, refusal: Refusal) -> Result<(), AllocError>
     ensures { OnOk result (string_bytes out.new ≡ string_bytes out.old ++ refusal_words refusal) }
 {
-    match str::from_utf8(refusal.words()) {
+    match str::from_utf8(diagnostic_words::of_refusal(refusal)) {
         Ok(words) => out.push_str(words),
         Err(_) => Ok(()),
     }

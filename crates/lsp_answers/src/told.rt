@@ -24,7 +24,7 @@ fn part(alloc: Global, page: Page<'_>, offset: usize, length: usize) -> Result<V
 /// The refusal's own words and what is said behind them.
 fn message(alloc: Global, verdict: &Verdict) -> Result<String, AllocError> {
     let mut words = String::new(alloc);
-    if let Ok(own) = str::from_utf8(verdict.refusal.words()) {
+    if let Ok(own) = str::from_utf8(diagnostic_words::of_refusal(verdict.refusal)) {
         words.push_str(own)?;
     }
     words.push_str(verdict.words.as_str())?;

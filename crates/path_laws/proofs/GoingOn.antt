@@ -3,7 +3,7 @@ use Rattle.std.proofs.Common.{◌≡◌, ℕ, ◌+◌, ◌<◌, List, [], ◌∷
 use Rattle.std.specs.Prelude.{slice_index_or}
 use Rattle.std.specs.List.{Contains}
 use Rattle.std.proofs.lemmas.Option.{slice_get-get_or}
-use Rattle.promela_session.specs.Session.{Rules, Goes}
+use Rattle.promela_machine.specs.Machine.{Rules, Goes}
 use Rattle.pml_play.specs.Run.{Leg, IsChosen, IsPath, last_state}
 use Rattle.path_laws.specs.GoesOn.{path_and, PathsGoOnByMoves}
 

@@ -5,7 +5,7 @@ use Rattle.std.proofs.lemmas.Bool.{true≢false}
 use Rattle.std.specs.List.{list_all, flat_map}
 use Rattle.profile.specs.Characters.{is_digit}
 use Rattle.promela_session.specs.Lines.{number_of}
-use Rattle.promela_session.specs.Session.{Rules, Goes}
+use Rattle.promela_machine.specs.Machine.{Rules, Goes}
 use Rattle.promela_session.specs.Events.{record_line, all_digits}
 use Rattle.session.proofs.Written.{all_are_digits, number_is}
 use Rattle.pml_play.specs.Run.{Leg, IsChosen, IsPath}

@@ -4,7 +4,7 @@ use Rattle.std.specs.Prelude.{slice_get, slice_set, unwrap_or, option_map}
 use Rattle.std.specs.List.{AllByRecursion}
 use Rattle.diagnostics.specs.declared.fault.Fault.{Fault}
 use Rattle.profile.specs.declared.TheConstants.{MOST_DSTEP_STATEMENTS}
-use Rattle.promela_session.specs.Session.{Goes}
+use Rattle.promela_machine.specs.Machine.{Goes}
 use Rattle.pml_program.specs.declared.program.Stmt.{Stmt}
 use Rattle.pml_program.specs.declared.program.Seq.{Seq}
 use Rattle.pml_program.specs.declared.program.Action.TheVariants as a

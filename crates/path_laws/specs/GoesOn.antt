@@ -1,7 +1,7 @@
 -- How paths go on.
 use Rattle.std.specs.Prelude.{◌≡◌, ℕ, List, [], ◌∷◌, ◌++◌}
 use Rattle.std.specs.List.{Contains}
-use Rattle.promela_session.specs.Session.{Rules, Goes}
+use Rattle.promela_machine.specs.Machine.{Rules, Goes}
 use Rattle.pml_play.specs.Plain.{SayTheSame}
 use Rattle.pml_play.specs.Run.{Leg, IsPath, last_state}
 

@@ -1,6 +1,6 @@
 -- Lists in which nothing stands twice, and the numbers of a path.
 use Rattle.std.specs.Prelude.{◌≡◌, ℕ, List, Some, length, slice_get}
-use Rattle.promela_session.specs.Session.{Rules}
+use Rattle.promela_machine.specs.Machine.{Rules}
 use Rattle.pml_play.specs.Plain.{SayTheSame}
 use Rattle.pml_play.specs.Run.{Leg, IsPath}
 

@@ -6,7 +6,7 @@ use Rattle.promela_session.specs.declared.ends.Cause.{Cause}
 use Rattle.promela_session.specs.declared.ends.Cause.TheVariants as cause
 use Rattle.promela_session.specs.declared.ends.Options.{Options}
 use Rattle.promela_session.specs.Events.{recorded, Part}
-use Rattle.promela_session.specs.Session.{Rules, Faults}
+use Rattle.promela_machine.specs.Machine.{Rules, Faults}
 use Rattle.promela_run.specs.World.{Running, rules as rules_of_models}
 use Rattle.pml_play.specs.Plain.{SayTheSame}
 use Rattle.pml_play.specs.Run.{Leg, IsChosen, IsRun, HasRun, IsSessionOver, last_state}

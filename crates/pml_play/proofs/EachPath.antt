@@ -10,7 +10,8 @@ use Rattle.promela_session.specs.declared.form.Stream.TheVariants.{Unread, Known
 use Rattle.promela_session.specs.declared.form.Version.TheVariants.{First}
 use Rattle.promela_session.specs.Events.{Event, Put, Told, Recorded, Stepped, asks, recorded, Part, preceded, record_line, all_digits, placed_line, prompt, list_from}
 use Rattle.profile.specs.declared.TheConstants.{LINE_BYTES}
-use Rattle.promela_session.specs.Session.{Rules, Goes, place_of_move, select_move, stepped, step_text, answered, story, transcript}
+use Rattle.promela_machine.specs.Machine.{Rules, Goes}
+use Rattle.promela_session.specs.Session.{place_of_move, select_move, stepped, step_text, answered, story, transcript}
 use Rattle.session.proofs.Parts.{recorded-append, recorded-asks}
 use Rattle.session.proofs.Records.{IsPlain}
 use Rattle.session.proofs.Replay.{picked_again}

@@ -10,7 +10,8 @@ use Rattle.promela_session.specs.declared.form.Stream.TheVariants.{Unread, Known
 use Rattle.promela_session.specs.declared.form.Version.TheVariants.{First}
 use Rattle.promela_session.specs.Events.{Put, Told, Stepped, Part, preceded, record_line, all_digits}
 use Rattle.profile.specs.declared.TheConstants.{LINE_BYTES}
-use Rattle.promela_session.specs.Session.{Rules, Goes, step_text, story, transcript}
+use Rattle.promela_machine.specs.Machine.{Rules, Goes}
+use Rattle.promela_session.specs.Session.{step_text, story, transcript}
 use Rattle.session.proofs.Records.{IsPlain}
 use Rattle.promela_run.specs.World.{Running, rules}
 use Rattle.pml_sim.proofs.Short.{IsLightHere, goes_light, number_fits}

@@ -4,7 +4,8 @@ use Rattle.std.specs.List.{flat_map}
 use Rattle.promela_session.specs.declared.ends.Options.{Options}
 use Rattle.promela_session.specs.declared.ends.End.{End}
 use Rattle.promela_session.specs.Events.{Event, Put, Told, Recorded, Stepped, asks, Part, preceded, record_line, placed_line, prompt, list_from}
-use Rattle.promela_session.specs.Session.{Rules, Outcome, Goes, Faults, place_of_move, step_text}
+use Rattle.promela_machine.specs.Machine.{Rules, Outcome, Goes, Faults}
+use Rattle.promela_session.specs.Session.{place_of_move, step_text}
 use Rattle.promela_run.specs.declared.moves.Move.{Move}
 use Rattle.promela_run.specs.World.{Running, rules as rules_of_models}
 use Rattle.pml_play.specs.Plain.{SayTheSame}

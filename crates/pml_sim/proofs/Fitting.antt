@@ -17,7 +17,8 @@ use Rattle.promela_session.specs.Events.{Event, asks, Part, preceded, placed_lin
 use Rattle.profile.specs.declared.TheConstants.{LINE_BYTES, BAD_LINES}
 use Rattle.promela_session.specs.Lines.{Line, line_within, read_of, saw_end}
 use Rattle.session.specs.Answers.{IsPickUpTo}
-use Rattle.promela_session.specs.Session.{Rules, Outcome, Goes, Faults, one_line, next_line, one_reply, begins_second, stream_behind, only_this, after_line, ask_for_move, kept, place_of_move, select_move, stopped, finished, stepped, answered, story, transcript}
+use Rattle.promela_machine.specs.Machine.{Rules, Outcome, Goes, Faults}
+use Rattle.promela_session.specs.Session.{one_line, next_line, one_reply, begins_second, stream_behind, only_this, after_line, ask_for_move, kept, place_of_move, select_move, stopped, finished, stepped, answered, story, transcript}
 use Rattle.session.proofs.Replay.{ask_range}
 use Rattle.session.proofs.Turns.{story_none, story_limit, story_some, answer_part}
 

@@ -3,7 +3,7 @@ use Rattle.std.proofs.Common.{◌≡◌, ◌⊎◌, inl, inr, ℕ, zero, suc, �
 use Rattle.std.proofs.lemmas.List.{take_all, take-append-le}
 use Rattle.std.proofs.lemmas.Bool.{cases_lt}
 use Rattle.diagnostics.specs.declared.fault.Fault.{Fault}
-use Rattle.promela_session.specs.Session.{Outcome, Goes, Faults}
+use Rattle.promela_machine.specs.Machine.{Outcome, Goes, Faults}
 use Rattle.promela_process.specs.Store.{Frame}
 use Rattle.diagnostics.specs.declared.stop.Stop.TheVariants as stop
 use Rattle.promela_run.specs.declared.moves.Move.{Move}

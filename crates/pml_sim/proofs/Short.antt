@@ -7,7 +7,8 @@ use Rattle.std.proofs.lemmas.Option.{slice_get-get_or}
 use Rattle.diagnostics.specs.declared.fault.Fault.{Fault}
 use Rattle.promela_session.specs.declared.ends.Options.{Options}
 use Rattle.promela_session.specs.Devices.{StandsForRecord}
-use Rattle.promela_session.specs.Session.{Goes, place_of_move, transcript}
+use Rattle.promela_machine.specs.Machine.{Goes}
+use Rattle.promela_session.specs.Session.{place_of_move, transcript}
 use Rattle.promela_session.specs.Events.{all_digits, placed_line}
 use Rattle.session.proofs.Placing.{can_be_converted}
 use Rattle.session.proofs.Replay.{picked_is_there}

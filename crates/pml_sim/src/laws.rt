@@ -2,7 +2,7 @@
 
 ghost use Rattle.std.specs.Prelude.{◌≡◌, Bool, List, [], ℕ, length, take};
 ghost use Rattle.std.specs.List.{flat_map};
-ghost use Rattle.promela_session.specs.Session.{Goes};
+ghost use Rattle.promela_machine.specs.Machine.{Goes};
 ghost use Rattle.promela_run.specs.State.{State};
 ghost use Rattle.run_values.specs.Changed.{wanted_changes};
 ghost use Rattle.promela_run.specs.declared.moves.Move.{Move};

@@ -21,7 +21,7 @@ use Rattle.promela_run.specs.Moves.{each}
 use Rattle.promela_process.specs.Store.{Frame}
 use Rattle.promela_run.specs.declared.halt.Halt.{Halt}
 use Rattle.diagnostics.specs.declared.fault.Fault.{Fault}
-use Rattle.promela_session.specs.Session.{Rules, Outcome, Goes, Faults}
+use Rattle.promela_machine.specs.Machine.{Rules, Outcome, Goes, Faults}
 use Rattle.promela_run.specs.Moves as search
 use Rattle.profile.specs.declared.TheConstants.{MOST_DSTEP_STATEMENTS}
 use Rattle.promela_run.specs.Steps.{sorts}

@@ -7,7 +7,8 @@ use Rattle.std.specs.Fmt.{decimal}
 use Rattle.profile.specs.Characters.{zero_digit}
 use Rattle.diagnostics.specs.declared.fault.Fault.{Fault}
 use Rattle.diagnostics.specs.declared.refusal.Refusal.{Refusal}
-use Rattle.diagnostics.specs.Words.{fault_number, fault_words, refusal_number, refusal_words}
+use Rattle.diagnostics.specs.Numbers.{fault_number, refusal_number}
+use Rattle.diagnostic_words.specs.Words.{fault_words, refusal_words}
 use Rattle.promela_session.specs.declared.ends.Cause.{Cause}
 use Rattle.promela_session.specs.declared.form.Version.{Version}
 use Rattle.promela_session.specs.declared.form.Version.TheVariants.{First, Second}

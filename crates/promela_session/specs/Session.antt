@@ -1,5 +1,5 @@
--- A machine as a session sees it, and its session: what it does on these choices, and how it ends.
--- Hold it against docs/FORMATS.md; chapter 7 of the book: states, and what leads from one to another.
+-- The session of a machine: what it does on these choices, and how it ends.
+-- Hold it against docs/FORMATS.md.
 use Rattle.std.specs.Prelude.{ℕ, List, Bool, Option, ◌+◌, ◌-◌, [], ◌∷◌, ◌++◌, length, true, false, if◌then◌else◌, Some, None, slice_index_or, unwrap_or, option_map}
 use Rattle.diagnostics.specs.declared.fault.Fault.{Fault}
 use Rattle.diagnostics.specs.declared.stop.Stop.{Stop}
@@ -15,43 +15,13 @@ use Rattle.promela_session.specs.declared.line.LineEnd.{LineEnd}
 use Rattle.promela_session.specs.declared.line.LineEnd.TheVariants.{Last, TooLong}
 use Rattle.promela_session.specs.declared.choice.Answer.{Answer}
 use Rattle.promela_session.specs.declared.choice.Answer.TheVariants as answer
+use Rattle.promela_machine.specs.Machine.{Rules, Outcome, Goes, Faults, Stopped}
 use Rattle.promela_session.specs.Events.{Put, Told, Corrected, Recorded, Stepped, asks, Part, preceded, followed, list_from, prompt, bad_line, noted, placed_line, last_line, step_line, fault_line, refusal_line, status_of}
 use Rattle.promela_session.specs.Lines.{line_within, read_of, saw_end, reply_in, is_header}
 use Rattle.promela_session.specs.declared.form.Stream.{Stream}
 use Rattle.promela_session.specs.declared.form.Stream.TheVariants.{Unread, Known, Over}
 use Rattle.promela_session.specs.declared.form.Version.{Version}
 use Rattle.promela_session.specs.declared.form.Version.TheVariants.{First, Second}
-
--- a step leads to a state and prints bytes, or it is a fault
-pub data Outcome (S : Type 0) : Type 0 where
-  Goes : S → List ℕ → Outcome S
-  Faults : Fault → Outcome S
-
--- a move that was not taken to its end, and why
-pub record Stopped (M : Type 0) : Type 0 where
-  pub move : M
-  pub why : Stop
-
--- What a machine with these states and moves does.
-pub record Rules (S M : Type 0) : Type 0 where
-  -- what can be done, in the order in which it is listed
-  pub moves : S → List M
-  -- what a move leads to
-  pub step : S → M → Outcome S
-  -- where a state has stopped: nothing is done from it on
-  pub stopped : S → Option (Stopped M)
-  -- the text of a move
-  pub text : S → M → List ℕ
-  -- the number of its process and its line, of a move of two processes those of the sender
-  pub origin : S → M → ℕ × ℕ
-  -- the value lines of the step that led here: of globals, of locals
-  pub values : S → Bool → Bool → List ℕ
-  -- a state without a move is a valid end
-  pub is_valid : S → Bool
-  -- the lines of an invalid end
-  pub stuck : S → List ℕ
-
--- ---- a session
 
 -- what a line of this version says that ends so, or `None` for a bad line
 abbrev pub reply_at : Version → ℕ → (ℕ → ℕ × ℕ) → LineEnd → List ℕ → Option Answer

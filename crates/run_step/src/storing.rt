@@ -79,7 +79,8 @@ pub(crate) fn assign(
     value: &Expr,
 ) -> Result<(), Stop>
     requires { process < length live.old.state.stands }
-    ensures value { Leads (put_by live.old.state (assigned (Some target.now) value.now (reads live.old.state process timeout))) result live.new.state }
+    ensures value { Leads (put_by live.old.state (assigned (Some target.now) value.now (reads live.old.state process timeout)))
+        result live.new.state }
     ensures keeps { Keeps live.old live.new }
 {
     match value_of(live, process, timeout, value) {

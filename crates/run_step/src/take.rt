@@ -112,7 +112,8 @@ fn pass_on(
 ) -> Result<(), Stop>
     requires sends { IsOffer live.old.state sender sent.now }
     requires receives { IsOffer live.old.state receiver received.now }
-    ensures value { (text : List ℕ) → Does (after_move MOST_DSTEP_STATEMENTS live.old.state (Pair sender receiver timeout)) result live.new.state text text }
+    ensures value { (text : List ℕ) → Does (after_move MOST_DSTEP_STATEMENTS live.old.state (Pair sender receiver timeout))
+        result live.new.state text text }
     ensures joins { OnErr result (Joins live.old.state live.new.state) }
     ensures program { live.new.state.program ≡ live.old.state.program }
     ensures past { OnOk result (PastGrows live.old live.new) }
@@ -133,7 +134,8 @@ fn pass_on(
 /// Two processes meet.
 #[inline(never)]
 fn pair(live: &mut Live<'_, '_>, sender: Pick, receiver: Pick, timeout: bool) -> Result<(), Stop>
-    ensures value { (text : List ℕ) → Does (after_move MOST_DSTEP_STATEMENTS live.old.state (Pair sender receiver timeout)) result live.new.state text text }
+    ensures value { (text : List ℕ) → Does (after_move MOST_DSTEP_STATEMENTS live.old.state (Pair sender receiver timeout))
+        result live.new.state text text }
     ensures joins { OnErr result (Joins live.old.state live.new.state) }
     ensures program { live.new.state.program ≡ live.old.state.program }
     ensures past { OnOk result (PastGrows live.old live.new) }

@@ -9,7 +9,8 @@ use Rattle.promela_session.specs.declared.choice.Answer.TheVariants as answer
 use Rattle.promela_session.specs.Events.{Event, Put, Told, Corrected, Stepped, asks, Part, preceded, followed, prompt, bad_line, list_from}
 use Rattle.profile.specs.declared.TheConstants.{LINE_BYTES, BAD_LINES}
 use Rattle.promela_session.specs.Lines.{Line, line_within, lengthened, read_of, saw_end}
-use Rattle.promela_session.specs.Session.{Rules, Outcome, Goes, Faults, one_line, next_line, one_reply, begins_second, stream_behind, ask_for_move, after_line, only_this, kept, question, choose, place_of_move, select_move, stopped, finished, stepped, answered, at_moves, story, step_text}
+use Rattle.promela_machine.specs.Machine.{Rules, Outcome, Goes, Faults}
+use Rattle.promela_session.specs.Session.{one_line, next_line, one_reply, begins_second, stream_behind, ask_for_move, after_line, only_this, kept, question, choose, place_of_move, select_move, stopped, finished, stepped, answered, at_moves, story, step_text}
 use Rattle.session.specs.Laws.{is_asked_end, meets_the_end, with_more_left, WhatIsBehindChangesNothing}
 use Rattle.promela_session.specs.declared.form.Stream.{Stream}
 use Rattle.promela_session.specs.declared.form.Stream.TheVariants.{Unread, Known, Over}

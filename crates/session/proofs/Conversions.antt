@@ -20,7 +20,8 @@ use Rattle.promela_session.specs.declared.form.Version.TheVariants.{First, Secon
 use Rattle.session.specs.Converting.{fits_line, told_event, told_events, noting, quiet, told, failure_converting}
 use Rattle.promela_session.specs.Events.{Event, Put, Told, Asked, AskedEnd, Recorded, Stepped, is_ask, output, front, recorded, steps_in, step_of, Part, preceded, followed, header_line, list_from, prompt}
 use Rattle.profile.specs.declared.TheConstants.{BAD_LINES, LINE_BYTES}
-use Rattle.promela_session.specs.Session.{Rules, Outcome, Goes, Faults, kept, question, choose, place_of_move, select_move, stopped, stepped, answered, at_moves, story, transcript, transcript_noting, step_text, end_of}
+use Rattle.promela_machine.specs.Machine.{Rules, Outcome, Goes, Faults}
+use Rattle.promela_session.specs.Session.{kept, question, choose, place_of_move, select_move, stopped, stepped, answered, at_moves, story, transcript, transcript_noting, step_text, end_of}
 use Rattle.promela_session.specs.Devices.{is_readable, AreReadable, MovedBy, Begins, Does, Breaks, CountsBroken, Ends, IsBrokenOff, IsConvertedBy, converted_event, converted_events, converted}
 use Rattle.session.specs.Writes.{Runs}
 use Rattle.session.proofs.Parts.{records, record_breaks, Leads-does, Leads-breaks}

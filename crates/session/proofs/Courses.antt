@@ -8,7 +8,8 @@ use Rattle.promela_session.specs.declared.ends.Cause.TheVariants as cause
 use Rattle.promela_session.specs.declared.choice.Answer.{Answer}
 use Rattle.promela_session.specs.declared.choice.Answer.TheVariants as answer
 use Rattle.promela_session.specs.Events.{Event, Put, Told, Stepped, Part, preceded, followed}
-use Rattle.promela_session.specs.Session.{Rules, Outcome, Goes, Faults, select_move, stopped, stepped, answered, at_moves, story, transcript, step_text}
+use Rattle.promela_machine.specs.Machine.{Rules, Outcome, Goes, Faults}
+use Rattle.promela_session.specs.Session.{select_move, stopped, stepped, answered, at_moves, story, transcript, step_text}
 use Rattle.session.specs.Laws.{is_no_piece, beside_output, IsSameCourse, ShowingChangesNothing}
 use Rattle.promela_session.specs.declared.form.Stream.{Stream}
 use Rattle.promela_session.specs.declared.form.Stream.TheVariants.{Unread}

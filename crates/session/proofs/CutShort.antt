@@ -12,7 +12,8 @@ use Rattle.promela_session.specs.Events.{Event, Put, Told, AskedEnd, Recorded, S
 use Rattle.profile.specs.declared.TheConstants.{LINE_BYTES, BAD_LINES}
 use Rattle.promela_session.specs.Lines.{is_header}
 use Rattle.session.specs.Answers.{IsPickUpTo}
-use Rattle.promela_session.specs.Session.{Rules, Outcome, Goes, Faults, one_line, next_line, one_reply, ask_for_move, only_this, kept, choose, place_of_move, select_move, stopped, finished, stepped, answered, story, transcript, refused, end_of, step_text}
+use Rattle.promela_machine.specs.Machine.{Rules, Outcome, Goes, Faults}
+use Rattle.promela_session.specs.Session.{one_line, next_line, one_reply, ask_for_move, only_this, kept, choose, place_of_move, select_move, stopped, finished, stepped, answered, story, transcript, refused, end_of, step_text}
 use Rattle.promela_session.specs.Devices.{is_cut_short, IsSameBeginning, CanBeReplayed}
 use Rattle.session.proofs.LineReading.{line_end}
 use Rattle.session.proofs.Parts.{front-append, recorded-append, front-asks, recorded-asks}

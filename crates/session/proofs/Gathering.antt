@@ -14,7 +14,8 @@ use Rattle.session.specs.Writes.{Leads, Continues, story_after}
 use Rattle.session.specs.declared.course.Course.{Course}
 use Rattle.session.specs.Gathered.{told_steps, begins_from, later, AddsText, CutsTexts, AreGathered, behind, Waits, BreaksBare, Halts, GoesFurther, Advances, TurnsOn}
 use Rattle.promela_session.specs.declared.ends.Options.{Options}
-use Rattle.promela_session.specs.Session.{Rules, Goes, stepped, step_text, story, select_move, answered}
+use Rattle.promela_machine.specs.Machine.{Rules, Goes}
+use Rattle.promela_session.specs.Session.{stepped, step_text, story, select_move, answered}
 use Rattle.session.proofs.Turns.{step_part, step_leads}
 use Rattle.session.proofs.Moving.{Moved-nil, Moved-still}
 use Rattle.session.proofs.Parts.{Leads-nil, preceded-preceded, Leads-same, Leads-trans, Leads-does, Leads-breaks, output-append}

@@ -22,7 +22,8 @@ use Rattle.promela_session.specs.Events.{Event, Put, Told, Asked, AskedEnd, Reco
 use Rattle.profile.specs.declared.TheConstants.{LINE_BYTES, BAD_LINES}
 use Rattle.promela_session.specs.Lines.{line_within, read_of, saw_end}
 use Rattle.session.specs.Answers.{IsPickUpTo}
-use Rattle.promela_session.specs.Session.{Rules, Outcome, Goes, Faults, one_line, next_line, one_reply, begins_second, stream_behind, ask_for_move, only_this, kept, choose, place_of_move, select_move, stopped, finished, stepped, answered, story, transcript, step_text, refused}
+use Rattle.promela_machine.specs.Machine.{Rules, Outcome, Goes, Faults}
+use Rattle.promela_session.specs.Session.{one_line, next_line, one_reply, begins_second, stream_behind, ask_for_move, only_this, kept, choose, place_of_move, select_move, stopped, finished, stepped, answered, story, transcript, step_text, refused}
 use Rattle.session.specs.Reads.{line_asks}
 use Rattle.session.proofs.LineReading.{AsksFirst, asks_first}
 use Rattle.session.proofs.Parts.{front-append, output-append, recorded-append, front-asks}

@@ -17,7 +17,8 @@ use Rattle.profile.specs.declared.TheConstants.{LINE_BYTES, BAD_LINES}
 use Rattle.profile.specs.Characters.{is_digit}
 use Rattle.promela_session.specs.Lines.{Line, line_within, read_of, saw_end, reply_of, reply_in, number_of, number_up_to, is_quit, trimmed, first_word, behind_word, writes, picked_at, placed_answer, placed_reply}
 use Rattle.session.specs.Answers.{IsPickUpTo}
-use Rattle.promela_session.specs.Session.{Rules, Outcome, Goes, Faults, one_line, next_line, one_reply, begins_second, stream_behind, reply_at, ask_for_move, after_line, only_this, kept, choose, place_of_move, select_move, stopped, finished, stepped, answered, story, step_text}
+use Rattle.promela_machine.specs.Machine.{Rules, Outcome, Goes, Faults}
+use Rattle.promela_session.specs.Session.{one_line, next_line, one_reply, begins_second, stream_behind, reply_at, ask_for_move, after_line, only_this, kept, choose, place_of_move, select_move, stopped, finished, stepped, answered, story, step_text}
 use Rattle.promela_session.specs.Devices.{converted_events, placed_lines, without_corrections, is_complete, IsSameRun}
 use Rattle.session.specs.Converting.{told_events}
 use Rattle.session.proofs.Parts.{front-append, output-append, recorded-append, front-asks, output-asks, recorded-asks}

@@ -6,7 +6,8 @@ use Rattle.promela_session.specs.declared.ends.Options.{Options}
 use Rattle.promela_session.specs.declared.ends.Broken.{Broken}
 use Rattle.promela_session.specs.declared.ends.Broken.TheVariants as broken
 use Rattle.promela_session.specs.Events.{Put, Told, Stepped, fault_line}
-use Rattle.promela_session.specs.Session.{Rules, Goes, Faults, stepped, step_text}
+use Rattle.promela_machine.specs.Machine.{Rules, Goes, Faults}
+use Rattle.promela_session.specs.Session.{stepped, step_text}
 use Rattle.session.specs.Writes.{Writes, WriteBreaks, StepBreaks}
 use Rattle.session.proofs.Moving.{Moved-piece}
 

@@ -11,7 +11,8 @@ use Rattle.promela_session.specs.declared.ends.Broken.TheVariants as broken
 use Rattle.promela_session.specs.declared.choice.Answer.{Answer}
 use Rattle.promela_session.specs.declared.choice.Answer.TheVariants as answer
 use Rattle.promela_session.specs.Events.{Purpose, Put, Told, Stepped, Part, preceded, followed, noted, placed_line, fault_line}
-use Rattle.promela_session.specs.Session.{Rules, Goes, Faults, only_this, kept, choose, place_of_move, select_move, stopped, finished, end_of, stepped, step_text, answered, story}
+use Rattle.promela_machine.specs.Machine.{Rules, Goes, Faults}
+use Rattle.promela_session.specs.Session.{only_this, kept, choose, place_of_move, select_move, stopped, finished, end_of, stepped, step_text, answered, story}
 use Rattle.session.specs.Answers.{cause_of}
 use Rattle.promela_session.specs.Devices.{Does, Breaks}
 use Rattle.session.specs.Writes.{Leads, PlaysQuestion, WriteBreaks, RecordBreaks, kept_text, StepBreaks, Continues, Acts, Turns, acted, story_after}

@@ -7,7 +7,8 @@ use Rattle.std.proofs.lemmas.Option.{slice_get_read}
 use Rattle.promela_session.specs.declared.choice.Answer.TheVariants as answer
 use Rattle.profile.specs.Characters.{is_digit}
 use Rattle.promela_session.specs.Lines.{is_line_blank, is_gap, is_quit, end_trimmed, without_front, trimmed, first_word, behind_word, number_up_to, writes, reply_of, placed_answer, placed_reply}
-use Rattle.promela_session.specs.Session.{Rules, place_of_move}
+use Rattle.promela_machine.specs.Machine.{Rules}
+use Rattle.promela_session.specs.Session.{place_of_move}
 
 -- ---- what a line says
 

@@ -10,7 +10,8 @@ use Rattle.promela_session.specs.declared.ends.Broken.TheVariants as broken
 use Rattle.promela_session.specs.declared.form.Version.TheVariants.{Second}
 use Rattle.promela_session.specs.Events.{Event, Put, Told, Asked, AskedEnd, Recorded, Stepped, Part, preceded, header_line}
 use Rattle.profile.specs.declared.TheConstants.{LINE_BYTES}
-use Rattle.promela_session.specs.Session.{Rules, transcript, transcript_noting}
+use Rattle.promela_machine.specs.Machine.{Rules}
+use Rattle.promela_session.specs.Session.{transcript, transcript_noting}
 use Rattle.promela_session.specs.Devices.{converted, StandsForRecord, IsConvertedBy}
 
 -- the session of a machine where its choices are converted

@@ -6,7 +6,8 @@ use Rattle.promela_session.specs.declared.ends.End.{End}
 use Rattle.promela_session.specs.declared.ends.Broken.{Broken}
 use Rattle.promela_session.specs.declared.ends.Broken.TheVariants as broken
 use Rattle.promela_session.specs.Events.{Event, Put, Told, Stepped, output, Part, preceded}
-use Rattle.promela_session.specs.Session.{Rules, stepped}
+use Rattle.promela_machine.specs.Machine.{Rules}
+use Rattle.promela_session.specs.Session.{stepped}
 use Rattle.promela_session.specs.Devices.{Does, Breaks}
 use Rattle.session.specs.Writes.{Leads, story_after}
 use Rattle.session.specs.declared.course.Terms.{Terms}

@@ -3,7 +3,8 @@ use Rattle.std.specs.Prelude.{◌≡◌, ℕ, List, ◌++◌, filter, Bool, true
 use Rattle.std.specs.List.{list_any}
 use Rattle.promela_session.specs.declared.ends.Options.{Options}
 use Rattle.promela_session.specs.Events.{Event, Put, Asked, AskedEnd, Recorded, Stepped, Part}
-use Rattle.promela_session.specs.Session.{Rules, transcript}
+use Rattle.promela_machine.specs.Machine.{Rules}
+use Rattle.promela_session.specs.Session.{transcript}
 
 -- an event that writes nothing to the output: a byte that is asked for, a line of the record, a step
 abbrev pub is_no_piece : Event → Bool

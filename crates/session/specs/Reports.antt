@@ -2,7 +2,7 @@
 use Rattle.std.specs.Prelude.{◌≡◌, ℕ, Bool, List, ⊤}
 use Rattle.session.specs.declared.machine.Report.{Report}
 use Rattle.session.specs.declared.machine.Report.TheVariants.{Values, Ending}
-use Rattle.promela_session.specs.Session.{Rules}
+use Rattle.promela_machine.specs.Machine.{Rules}
 
 -- the value lines of the step that led to the state, or the lines of an invalid end
 abbrev pub reported : {S M : Type 0} → Rules S M → S → Report → List ℕ

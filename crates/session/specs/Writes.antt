@@ -12,7 +12,8 @@ use Rattle.promela_session.specs.declared.ends.Broken.TheVariants as broken
 use Rattle.promela_session.specs.declared.choice.Answer.{Answer}
 use Rattle.promela_session.specs.declared.choice.Answer.TheVariants as answer
 use Rattle.promela_session.specs.Events.{Event, front, Part, followed, preceded, noted, fault_line}
-use Rattle.promela_session.specs.Session.{Rules, Goes, Faults, stepped, step_text, select_move, answered, story, end_of}
+use Rattle.promela_machine.specs.Machine.{Rules, Goes, Faults}
+use Rattle.promela_session.specs.Session.{stepped, step_text, select_move, answered, story, end_of}
 use Rattle.promela_session.specs.Devices.{Ends, IsBrokenOff, MovedBy, Begins, Does, Breaks, CountsBroken}
 use Rattle.promela_session.specs.declared.form.Stream.{Stream}
 use Rattle.promela_session.specs.declared.form.Version.{Version}

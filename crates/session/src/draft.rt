@@ -305,7 +305,12 @@ pub fn draft_fault<M: Machine>(
     ensures { OnOk result (draft.new.piece.items ≡ fault_line fault n (M.rules.text machine.now m.now)) }
 {
     draft.piece.clear();
-    add_diagnosis(&mut draft.piece, b"fault F", fault.number(), fault.words())?;
+    add_diagnosis(
+        &mut draft.piece,
+        b"fault F",
+        fault.number(),
+        diagnostic_words::of_fault(fault),
+    )?;
     add_move(machine, m, b": step ", n, &mut draft.piece)
 }
 
@@ -314,7 +319,12 @@ pub fn draft_refusal(refusal: Refusal, piece: &mut Vec<u8>) -> Result<(), AllocE
     ensures { OnOk result (piece.new.items ≡ refusal_line refusal) }
 {
     piece.clear();
-    add_diagnosis(piece, b"refused M", refusal.number(), refusal.words())?;
+    add_diagnosis(
+        piece,
+        b"refused M",
+        refusal.number(),
+        diagnostic_words::of_refusal(refusal),
+    )?;
     piece.push(b'\n')?;
     Ok(())
 }

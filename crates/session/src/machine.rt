@@ -2,7 +2,7 @@
 ghost use Rattle.std.specs.Prelude.{◌≡◌, ◌++◌, List, ℕ, OnOk, OnErr, IfOk};
 ghost use Rattle.std.specs.Io.{StartsWith};
 ghost use Rattle.std.specs.List.{Contains};
-ghost use Rattle.promela_session.specs.Session.{Rules};
+ghost use Rattle.promela_machine.specs.Machine.{Rules};
 ghost use Rattle.session.specs.Takes.{CanBeShown, CanBeTaken, StopsForGood, TakesStep, StaysStopped};
 ghost use Rattle.session.specs.Reports.{reported, IsVerdict};
 

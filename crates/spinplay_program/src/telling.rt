@@ -17,7 +17,7 @@ pub const PROGRAM: &str = "spinplay";
 
 // Says why a model is refused: the line that a run would have in its output.
 pub fn tell_refused(rt: &HostRuntime, refusal: Refusal) {
-    if let Ok(words) = str::from_utf8(refusal.words()) {
+    if let Ok(words) = str::from_utf8(diagnostic_words::of_refusal(refusal)) {
         let _ = eprintln!(rt; "refused M{} ({words})", refusal.number());
     }
 }

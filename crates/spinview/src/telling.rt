@@ -93,7 +93,7 @@ fn explain_refusal(rt: &HostRuntime, asked: &Wishes, model: &Model, refusal: Ref
 
 // Says that the model is refused, and why.
 pub fn tell_refusal(rt: &HostRuntime, asked: &Wishes, model: &Model, refusal: Refusal, line: u32) {
-    if let Ok(words) = str::from_utf8(refusal.words()) {
+    if let Ok(words) = str::from_utf8(diagnostic_words::of_refusal(refusal)) {
         let _ = eprintln!(rt; "refused M{} ({words})", refusal.number());
     }
     if line > 0 {

@@ -1,7 +1,7 @@
 -- Three small machines: a process that sets a variable for some rounds, two processes, and a countdown.
 use Rattle.std.specs.Prelude.{ℕ, ◌+◌, ◌-◌, ◌==◌, ◌&&◌, ◌||◌, not, List, [], ◌∷◌, ◌++◌, Bool, true, false, Option, Some, None, nat_lt, min, if◌then◌else◌, codes}
 use Rattle.diagnostics.specs.declared.fault.Fault.TheVariants as fault
-use Rattle.promela_session.specs.Session.{Rules, Outcome, Stopped, Goes, Faults}
+use Rattle.promela_machine.specs.Machine.{Rules, Outcome, Stopped, Goes, Faults}
 use Rattle.test_code.specs.declared.sample.SettingRounds.{SettingRounds}
 use Rattle.test_code.specs.declared.sample.ProcessPair.{ProcessPair}
 use Rattle.test_code.specs.declared.sample.Sample.{Sample}

@@ -39,7 +39,13 @@ static REFUSALS: [(Refusal, u8, &str); 19] = [
 fn faults(rt: HostRuntime) {
     for (fault, number, words) in &FAULTS {
         same(&rt, words, "its number", fault.number(), *number);
-        same(&rt, words, "its words", fault.words(), words.as_bytes());
+        same(
+            &rt,
+            words,
+            "its words",
+            diagnostic_words::of_fault(fault),
+            words.as_bytes(),
+        );
     }
 }
 
@@ -47,6 +53,12 @@ fn faults(rt: HostRuntime) {
 fn refusals(rt: HostRuntime) {
     for (refusal, number, words) in &REFUSALS {
         same(&rt, words, "its number", refusal.number(), *number);
-        same(&rt, words, "its words", refusal.words(), words.as_bytes());
+        same(
+            &rt,
+            words,
+            "its words",
+            diagnostic_words::of_refusal(refusal),
+            words.as_bytes(),
+        );
     }
 }

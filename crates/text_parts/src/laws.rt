@@ -14,5 +14,6 @@ pub fn calls_are_found()
 
 /// An editor that adds the numbers up finds each part at its place: that behind the bytes before it.
 pub fn numbers_lead_to_places()
-    ensures { (u : ColumnUnit) (text : List ℕ) (parts : List Coloured) → Rises text 0 parts → decoded start (coded u text 0 parts) ≡ map (place_of u text) parts }
+    ensures { (u : ColumnUnit) (text : List ℕ) (parts : List Coloured) → Rises text 0 parts →
+        decoded start (coded u text 0 parts) ≡ map (place_of u text) parts }
 {}

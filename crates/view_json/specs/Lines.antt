@@ -6,7 +6,8 @@ use Rattle.json.specs.Token.{Token, begin_object, end_object, string}
 use Rattle.json.specs.Print.{print}
 use Rattle.json.specs.Lex.{tokens}
 use Rattle.diagnostics.specs.declared.fault.Fault.{Fault}
-use Rattle.diagnostics.specs.Words.{fault_number, fault_words}
+use Rattle.diagnostics.specs.Numbers.{fault_number}
+use Rattle.diagnostic_words.specs.Words.{fault_words}
 use Rattle.pml_program.specs.declared.program.Program.{Program}
 use Rattle.promela_process.specs.Store.{ChannelState}
 use Rattle.promela_run.specs.State.{channel_at, State}

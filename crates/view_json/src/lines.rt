@@ -234,7 +234,7 @@ pub fn add_fault(
 {
     let mut json = front;
     number(&mut json, "fault", fault.number() as usize);
-    text(&mut json, "words", fault.words());
+    text(&mut json, "words", diagnostic_words::of_fault(fault));
     details(picture, &mut json, m, fault);
     told_choices(picture, &mut json, 1, moves);
     json.end_object();

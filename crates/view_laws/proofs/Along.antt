@@ -6,7 +6,7 @@ use Rattle.std.proofs.lemmas.Bool.Decides.{nat_tests}
 use Rattle.std.proofs.lemmas.Grind.{flat_map-append}
 use Rattle.std.proofs.lemmas.List.{take_all, take-append-drop}
 use Rattle.std.proofs.lemmas.Option.{none-some, same_Some}
-use Rattle.promela_session.specs.Session.{Rules, Outcome, Goes, Faults}
+use Rattle.promela_machine.specs.Machine.{Rules, Outcome, Goes, Faults}
 use Rattle.promela_session.specs.Events.{record_line}
 use Rattle.pml_play.specs.Run.{Leg, IsChosen, IsStep, IsPath, last_state}
 use Rattle.view_walk.specs.declared.leg.Leg as choice

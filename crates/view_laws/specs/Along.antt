@@ -1,6 +1,6 @@
 -- The path of a walk.
 use Rattle.std.specs.Prelude.{◌≡◌, ℕ, false, List, length, take, Some}
-use Rattle.promela_session.specs.Session.{Rules}
+use Rattle.promela_machine.specs.Machine.{Rules}
 use Rattle.promela_run.specs.declared.moves.Move.{Move}
 use Rattle.promela_run.specs.World.{Running, rules as rules_of_models}
 use Rattle.pml_sim.specs.Lent.{IsFirst}

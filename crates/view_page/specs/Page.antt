@@ -3,7 +3,8 @@ use Rattle.std.specs.Prelude.{ℕ, ◌≡◌, false, ltb, if◌then◌else◌, n
 use Rattle.std.specs.List.{flat_map, list_any}
 use Rattle.std.specs.Fmt.{decimal}
 use Rattle.diagnostics.specs.declared.fault.Fault.{Fault}
-use Rattle.diagnostics.specs.Words.{fault_number, fault_words}
+use Rattle.diagnostics.specs.Numbers.{fault_number}
+use Rattle.diagnostic_words.specs.Words.{fault_words}
 use Rattle.view_text.specs.Written.{quoted}
 use Rattle.view_foreign.specs.Shown.{shown_bytes}
 use Rattle.view_page.specs.declared.parts.TheConstants.{TO_TITLE, TO_HEADING, TO_SOURCE, TO_STEPS, TO_LINES}

@@ -147,7 +147,7 @@ pub fn add_fault_item(text: &[u8], fault: Fault, out: &mut Writer)
     out.add(b": fault F");
     out.number(fault.number() as usize);
     out.add(b" (");
-    add_escaped(fault.words(), out);
+    add_escaped(diagnostic_words::of_fault(fault), out);
     out.add(b")</li>\n");
 }
 

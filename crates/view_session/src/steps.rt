@@ -131,7 +131,7 @@ fn add_fault(fault: Fault, step: usize, text: &Writer, out: &mut Writer)
     out.add(b"fault F");
     out.number(fault.number() as usize);
     out.add(b" (");
-    out.add(fault.words());
+    out.add(diagnostic_words::of_fault(fault));
     out.add(b"): step ");
     out.number(step);
     out.add(b": ");

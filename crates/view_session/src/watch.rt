@@ -224,7 +224,7 @@ pub fn add_fault(fault: Fault, out: &mut Writer)
     out.add(b"fault F");
     out.number(fault.number() as usize);
     out.add(b" (");
-    out.add(fault.words());
+    out.add(diagnostic_words::of_fault(fault));
     out.add(b")");
 }
 

@@ -6,7 +6,7 @@ use Rattle.std.proofs.lemmas.Bool.{false≢true, eqb-true, and_parts}
 use Rattle.std.proofs.lemmas.List.{length-take-le, length_push, take_all}
 use Rattle.std.proofs.lemmas.Option.{none-some, same_Some, slice_get_within, get_or_from_slice_get}
 use Rattle.diagnostics.specs.declared.fault.Fault.{Fault}
-use Rattle.promela_session.specs.Session.{Rules, Goes, Faults}
+use Rattle.promela_machine.specs.Machine.{Rules, Goes, Faults}
 use Rattle.view_walk.specs.declared.leg.Leg.{Leg}
 use Rattle.view_walk.specs.Choices.{numbered, after, behind, chosen, on, led, led_from, is_leg, with_leg}
 

@@ -4,7 +4,7 @@ use Rattle.std.specs.Prelude.{slice_get}
 use Rattle.std.proofs.lemmas.Option.{none-some}
 use Rattle.std.proofs.lemmas.Bool.{true≢false}
 use Rattle.diagnostics.specs.declared.fault.Fault.{Fault}
-use Rattle.promela_session.specs.Session.{Goes, Faults}
+use Rattle.promela_machine.specs.Machine.{Goes, Faults}
 use Rattle.pml_program.specs.declared.program.Program.{Program}
 use Rattle.promela_run.specs.State.{first_state}
 use Rattle.promela_run.specs.declared.moves.Move.{Move}

@@ -1,6 +1,6 @@
 -- Choices of moves by their numbers, and the states that they lead to.
 use Rattle.std.specs.Prelude.{ℕ, zero, suc, Bool, ◌==◌, ◌&&◌, if◌then◌else◌, false, List, ◌∷◌, [], ◌++◌, length, take, slice_get, Option, Some, None}
-use Rattle.promela_session.specs.Session.{Rules, Outcome, Goes, Faults}
+use Rattle.promela_machine.specs.Machine.{Rules, Outcome, Goes, Faults}
 use Rattle.view_walk.specs.declared.leg.Leg.{Leg}
 
 -- the move with this number, counted from 1

@@ -35,7 +35,7 @@ use Rattle.promela_run.specs.declared.live_channel.LiveChannel.{LiveChannel}
 use Rattle.promela_run.specs.declared.moves.Move.{Move}
 use Rattle.promela_run.specs.declared.moves.Move.TheVariants.{Alone, Death, Pair}
 use Rattle.promela_run.specs.declared.moves.Pick.{Pick}
-use Rattle.promela_session.specs.Session.{Outcome, Rules}
+use Rattle.promela_machine.specs.Machine.{Outcome, Rules}
 use Rattle.std.specs.List.{filter}
 use Rattle.std.specs.Option.{option_map_or}
 use Rattle.std.specs.Prelude.{Bool, Err, List, None, Ok, Option, Result, Some, [], false, if◌then◌else◌, int_lt, length, map, nat_eq, nat_lt, negsuc, not, option_map, pos, slice_get, suc, true, zero, ℕ, ℤ, ◌%◌, ◌&&◌, ◌*◌, ◌++◌, ◌+ℤ◌, ◌+◌, ◌-◌, ◌==◌, ◌||◌, ◌∷◌}

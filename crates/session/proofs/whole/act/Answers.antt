@@ -1,7 +1,8 @@
 use Rattle.std.proofs.Common.{◌≡◌, ℕ, ◌-◌, ◌<◌, ◌≤◌, List, length, get_or, Some, None, Ok, rules, arith}
 use Rattle.std.proofs.lemmas.Result.{err_from_is_err_and}
 use Rattle.std.proofs.lemmas.List.{get_or_read}
-use Rattle.promela_session.specs.Session.{Rules, answered, end_of}
+use Rattle.promela_machine.specs.Machine.{Rules}
+use Rattle.promela_session.specs.Session.{answered, end_of}
 use Rattle.session.specs.Answers.{cause_of}
 use Rattle.session.proofs.Parts.{Leads-trans, Leads-does, Leads-breaks, Does-then, Breaks-then}
 use Rattle.session.proofs.Turns.{step_leads, fault_does, step_breaks, to_step, to_stop, write_breaks, last_does, acts_of}
