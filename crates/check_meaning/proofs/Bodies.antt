@@ -21,7 +21,7 @@ use Rattle.check_resolve.specs.Statements.{Threaded, each, stmts, joined, basic_
 use Rattle.promela_model.specs.Stands.{Globals}
 use Rattle.promela_model.specs.StandsModel as stands
 use Rattle.promela_model.specs.StandsModel.{stmt_of, steps_of, StandsBasic, StandsItems, StandsSeq, StandsOptions}
-use Rattle.promela_model.specs.GrammarOfActions.{item_of, seq_of}
+use Rattle.promela_grammar.specs.Actions.{item_of, seq_of}
 use Rattle.check_meaning.proofs.Declaring.{Runs, Ready, sees-of, variables-ready, variables-stand, only_variables}
 use Rattle.check_meaning.proofs.Acting.{action-stands, only_action}
 

@@ -17,7 +17,7 @@ use Rattle.check_meaning.proofs.Words.{one_behind, fields_of, fields-cons}
 use Rattle.promela_model.specs.Stands as stands
 use Rattle.pml_program.specs.declared.expr.Expr.{Expr}
 use Rattle.promela_model.specs.Stands.{Meaning, Place, Pid, Count, Anything, special, turn_to, target_at, StandsStep, StandsFields, StandsReference, Structure, Globals, variable_named, fields_in}
-use Rattle.promela_model.specs.GrammarOfExpressions.{reference_of}
+use Rattle.promela_grammar.specs.Expressions.{reference_of}
 use Rattle.check_meaning.specs.Tiled as tiled
 use Rattle.check_meaning.specs.Tiled.{fields_at, listed, is_struct, Leads, reached, AreWithin, AreAmong, variables_of, fields_under, names_along, first_of, indices_along, name_of, names_of, LeadsOn, TargetLeads, LeadsAs}
 use Rattle.check_meaning.proofs.Growing.{same-name}

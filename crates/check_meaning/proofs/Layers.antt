@@ -23,7 +23,7 @@ use Rattle.check_resolve.specs.declared.reached.Reached.{Reached}
 use Rattle.check_resolve.specs.declared.reached.Reached.TheVariants as r
 use Rattle.check_resolve.specs.Numbered.{Scope, Stepped, Valued, Wanted, Reaching, reached, literal, truth, signed, read, target, received, at_scope, argument_layer, expr_layer, reference_layer, step_layer, numbered, numbered_argument, numbered_reference, numbered_step}
 use Rattle.promela_model.specs.Stands.{value_of, with_sign, as_value, as_place, as_wanted}
-use Rattle.promela_model.specs.GrammarOfExpressions.{named_step, reference_of}
+use Rattle.promela_grammar.specs.Expressions.{named_step, reference_of}
 use Rattle.check_meaning.proofs.Agreeing.{meaning_of}
 
 -- ---- the words of the numbering are those of the relation

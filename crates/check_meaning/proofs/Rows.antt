@@ -42,10 +42,10 @@ use Rattle.pml_program.specs.declared.expr.Target.{Target}
 use Rattle.check_meaning.proofs.Words.{with_constants, program_of}
 use Rattle.promela_model.specs.Stands
 use Rattle.promela_model.specs.Stands.{Place, Mtype, Pid, Count, Anything, Nothing, turn_to, target_at, StandsExpr, StandsReference, StandsArgument, Globals, constant_named, nothing_of}
-use Rattle.promela_model.specs.GrammarOfExpressions.{named_step, reference_of}
+use Rattle.promela_grammar.specs.Expressions.{named_step, reference_of}
 use Rattle.promela_model.specs.StandsModel as statement
 use Rattle.promela_model.specs.StandsModel.{StandsModel, stmt_of, steps_of, StandsAction, StandsBasic, StandsItems, StandsSeq, StandsVariables, StandsVariable, StandsRun}
-use Rattle.promela_model.specs.GrammarOfActions.{item_of, seq_of}
+use Rattle.promela_grammar.specs.Actions.{item_of, seq_of}
 
 abbrev named : List ℕ → Word
 named n = record { kind = word.Name; text = n; line = 1 }

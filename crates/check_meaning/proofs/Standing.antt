@@ -14,7 +14,7 @@ use Rattle.pml_program.specs.declared.expr.Want.{Want}
 use Rattle.check_resolve.specs.Numbered.{Scope, Path, through, at_scope, numbered, numbered_argument, numbered_reference, numbered_step}
 use Rattle.promela_model.specs.Stands as stands
 use Rattle.promela_model.specs.Stands.{Meaning, special, turn_to, StandsIndex, StandsStep, StandsFields, StandsReference, StandsExpr, StandsArgument, StandsArguments, Globals, variable_named, constant_named, fields_in}
-use Rattle.promela_model.specs.GrammarOfExpressions.{named_step, reference_of}
+use Rattle.promela_grammar.specs.Expressions.{named_step, reference_of}
 use Rattle.check_meaning.proofs.Things.{IsKnown}
 use Rattle.check_meaning.proofs.Agreeing.{Sees, meaning_of, known-at, field-known, through-field, through-lost, reached-special, reached-local, reached-global, reached-mtype, reached-nothing}
 use Rattle.check_meaning.proofs.Layers.{indexed, number-is, truth-value-is, timeout-is, reading-is, ask-is, poll-is, unary-is, binary-is, choice-is, exactly-is, fixed-is, equal-is, into-is, reference-is, step-is}

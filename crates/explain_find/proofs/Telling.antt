@@ -8,7 +8,7 @@ use Rattle.promela_text.specs.Inlines.{IsExpanded, GoesTooDeep}
 use Rattle.pml_inline.specs.Least.{IsLeast}
 use Rattle.promela_text.specs.declared.inline_fault.InlineError.TheVariants as fault
 use Rattle.promela_text.specs.declared.misuse.Misuse.{Misuse}
-use Rattle.promela_model.specs.GrammarOfModels.{Spells}
+use Rattle.promela_grammar.specs.Models.{Spells}
 use Rattle.promela_model.specs.declared.mark.Mark.{Mark}
 use Rattle.promela_model.specs.Marks.{of_tree}
 use Rattle.promela_model.specs.declared.condition.Condition.{Condition}

@@ -3,7 +3,7 @@
 ghost use Rattle.std.specs.Prelude.{◌≡◌, IfOk, IfSome, Some};
 ghost use Rattle.pml_tree.specs.declared.tree.Tree.{Tree};
 ghost use Rattle.pml_program.specs.declared.program.Program.{Program};
-ghost use Rattle.promela_model.specs.GrammarOfModels.{Spells};
+ghost use Rattle.promela_grammar.specs.Models.{Spells};
 ghost use Rattle.check_resolve.specs.Model.{numbered_model};
 ghost use Rattle.explain_control.specs.Blamed.{IsBlamedStepIn, IsBlamedCircleIn};
 ghost use Rattle.explain_find.specs.Marks.{breaks_of, all_breaks};

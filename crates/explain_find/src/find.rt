@@ -3,7 +3,7 @@
 ghost use Rattle.std.specs.Prelude.{◌≡◌, Bool, true, IfOk, IfSome, MatchOption, Some, drop};
 ghost use Rattle.diagnostics.specs.declared.refusal.Refusal.{Refusal};
 ghost use Rattle.pml_tree.specs.declared.tree.Tree.{Tree};
-ghost use Rattle.promela_model.specs.GrammarOfModels.{Spells};
+ghost use Rattle.promela_grammar.specs.Models.{Spells};
 ghost use Rattle.explain_tokens.specs.Placed.{ArePlaced, IsUnplaced};
 ghost use Rattle.pml_inline.specs.Least.{IsLeast};
 ghost use Rattle.promela_model.specs.Marks.{of_tree};

@@ -2,7 +2,7 @@
 
 ghost use Rattle.std.specs.Prelude.{◌≡◌, IfOk, MatchResult, Some};
 ghost use Rattle.pml_tree.specs.declared.tree.Tree.{Tree};
-ghost use Rattle.promela_model.specs.GrammarOfModels.{Spells};
+ghost use Rattle.promela_grammar.specs.Models.{Spells};
 ghost use Rattle.promela_model.specs.Marks.{of_tree};
 ghost use Rattle.check_resolve.specs.Model.{numbered_model};
 ghost use Rattle.explain_find.specs.Told.{NoTree, AreMarks};

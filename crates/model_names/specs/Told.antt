@@ -3,7 +3,7 @@ use Rattle.std.specs.Prelude.{◌≡◌, ℕ, List}
 use Rattle.pml_token.specs.Word.{Word}
 use Rattle.pml_tree.specs.declared.tree.Tree.{Tree}
 use Rattle.promela_text.specs.Inlines.{IsExpanded}
-use Rattle.promela_model.specs.GrammarOfModels.{Spells}
+use Rattle.promela_grammar.specs.Models.{Spells}
 use Rattle.promela_model.specs.declared.mark.Mark.{Mark}
 use Rattle.promela_model.specs.Marks.{of_tree}
 use Rattle.explain_tokens.specs.Placed.{ArePlaced}

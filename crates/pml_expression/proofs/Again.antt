@@ -14,8 +14,8 @@ use Rattle.pml_tree.specs.declared.tree.Expr.TheVariants as e
 use Rattle.pml_tree.specs.declared.tree.Argument.{Argument}
 use Rattle.pml_tree.specs.declared.tree.Reference.{Reference}
 use Rattle.pml_tree.specs.declared.tree.Step.{Step}
-use Rattle.promela_model.specs.GrammarOfExpressions as grammar
-use Rattle.promela_model.specs.GrammarOfExpressions.{operator, level, prefix_level, truth_of_word, fill, query, prefix_operator, SpellsIndex, SpellsStep, SpellsFields, SpellsReference, SpellsExpr, SpellsArgument, SpellsArgumentList, SpellsArguments}
+use Rattle.promela_grammar.specs.Expressions as grammar
+use Rattle.promela_grammar.specs.Expressions.{operator, level, prefix_level, truth_of_word, fill, query, prefix_operator, SpellsIndex, SpellsStep, SpellsFields, SpellsReference, SpellsExpr, SpellsArgument, SpellsArgumentList, SpellsArguments}
 use Rattle.pml_expression.specs.declared.operators.Start.TheVariants as s
 use Rattle.pml_expression.specs.Starts.{start as start_of}
 use Rattle.pml_expression.specs.Reading as reading

@@ -2,8 +2,8 @@
 use Rattle.std.proofs.Common.{◌≡◌, ℕ, ◌-◌, List, [], ◌∷◌, ◌++◌, length, refl, sym, ap, ◌∙◌, append_assoc, arith, length-append}
 use Rattle.std.proofs.lemmas.List.{take_at}
 use Rattle.pml_token.specs.Word.{Word}
-use Rattle.promela_model.specs.GrammarOfExpressions as grammar
-use Rattle.promela_model.specs.GrammarOfExpressions.{between, SpellsIndex, SpellsStep, SpellsFields, SpellsReference, SpellsExpr, SpellsArgument, SpellsArgumentList, SpellsArguments, SpellsList}
+use Rattle.promela_grammar.specs.Expressions as grammar
+use Rattle.promela_grammar.specs.Expressions.{between, SpellsIndex, SpellsStep, SpellsFields, SpellsReference, SpellsExpr, SpellsArgument, SpellsArgumentList, SpellsArguments, SpellsList}
 
 -- to is what is left of from behind some tokens
 pub record Leads (from to : List Word) : Type 0 where

@@ -3,8 +3,8 @@ use Rattle.std.proofs.Common.{◌≡◌, ℕ, zero, suc, ◌<◌, ◌≤◌, fal
 use Rattle.std.proofs.lemmas.List.{append-nil}
 use Rattle.pml_token.specs.Word.{Word, same_kind}
 use Rattle.pml_token.specs.declared.token.Kind.TheVariants as k
-use Rattle.promela_model.specs.GrammarOfExpressions as grammar
-use Rattle.promela_model.specs.GrammarOfExpressions.{SpellsList}
+use Rattle.promela_grammar.specs.Expressions as grammar
+use Rattle.promela_grammar.specs.Expressions.{SpellsList}
 use Rattle.pml_expression.specs.Reading as reading
 use Rattle.pml_expression.specs.Reading.{Read, and_then, pick, next, sees, expect}
 use Rattle.pml_expression.proofs.Steps.{bind_ok, chosen, ok_is, expect_ok, expect_again, is_kind, done, closed_by}

@@ -7,7 +7,7 @@ use Rattle.pml_tree.specs.declared.tree.Prefix.{Prefix}
 use Rattle.pml_tree.specs.declared.tree.Expr.{Expr}
 use Rattle.pml_tree.specs.declared.tree.Expr.TheVariants as e
 use Rattle.pml_expression.specs.declared.operators.Start.TheVariants as s
-use Rattle.promela_model.specs.GrammarOfExpressions.{operator, level, prefix_level}
+use Rattle.promela_grammar.specs.Expressions.{operator, level, prefix_level}
 use Rattle.pml_expression.specs.Starts.{start}
 use Rattle.pml_expression.specs.Reading as reading
 use Rattle.pml_expression.specs.Reading.{Read, and_then, pick, next}

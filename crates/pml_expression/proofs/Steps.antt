@@ -7,8 +7,8 @@ use Rattle.pml_token.specs.declared.token.Kind.TheVariants as k
 use Rattle.pml_token.specs.Word.{same_kind, Word}
 use Rattle.pml_tree.specs.declared.tree.Infix.{Infix}
 use Rattle.pml_tree.specs.declared.tree.Infix.TheVariants as op
-use Rattle.promela_model.specs.GrammarOfExpressions as grammar
-use Rattle.promela_model.specs.GrammarOfExpressions.{level, prefix_level, SpellsIndex, SpellsStep, SpellsFields, SpellsReference, SpellsExpr, SpellsArgument, SpellsArgumentList, SpellsArguments}
+use Rattle.promela_grammar.specs.Expressions as grammar
+use Rattle.promela_grammar.specs.Expressions.{level, prefix_level, SpellsIndex, SpellsStep, SpellsFields, SpellsReference, SpellsExpr, SpellsArgument, SpellsArgumentList, SpellsArguments}
 use Rattle.pml_expression.specs.Reading.{and_then, pick, expect, expect_name}
 
 pub bind_ok : {A B : Type 0} {r : Result A ℕ} {f : A → Result B ℕ} {y : B} → and_then r f ≡ Ok y → (x : A) × (r ≡ Ok x) × (f x ≡ Ok y)

@@ -20,7 +20,7 @@ use Rattle.pml_expression.specs.declared.fault.ReadFault.{ReadFault}
 use Rattle.pml_expression.specs.declared.fault.ReadFault.TheVariants as fault
 use Rattle.pml_expression.specs.declared.operators.Start.{Start}
 use Rattle.pml_expression.specs.declared.operators.Start.TheVariants as s
-use Rattle.promela_model.specs.GrammarOfExpressions.{operator, level, prefix_level, query, named_step, reference_of}
+use Rattle.promela_grammar.specs.Expressions.{operator, level, prefix_level, query, named_step, reference_of}
 use Rattle.pml_expression.specs.Starts.{start}
 
 -- what was read, and the tokens behind it

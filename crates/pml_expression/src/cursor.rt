@@ -1,7 +1,7 @@
 //! The tokens that are still to be read, and the steps that every rule is made of.
 
 ghost use Rattle.std.specs.Prelude.{◌≡◌, drop, length};
-ghost use Rattle.promela_model.specs.GrammarOfExpressions.{between};
+ghost use Rattle.promela_grammar.specs.Expressions.{between};
 ghost use Rattle.pml_expression.specs.Reading as reading;
 ghost use Rattle.pml_expression.specs.Reading.{Reads};
 

@@ -2,7 +2,7 @@
 
 ghost use Rattle.std.specs.Prelude.{◌≡◌, IfOk, length};
 ghost use Rattle.pml_tree.specs.declared.tree.Expr.TheVariants as term;
-ghost use Rattle.promela_model.specs.GrammarOfExpressions.{prefix_level};
+ghost use Rattle.promela_grammar.specs.Expressions.{prefix_level};
 ghost use Rattle.pml_expression.specs.Reading as reading;
 ghost use Rattle.pml_expression.specs.Reading.{Reads};
 

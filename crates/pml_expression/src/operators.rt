@@ -1,7 +1,7 @@
 //! The operators of expressions.
 
 ghost use Rattle.std.specs.Prelude.{◌≡◌, ◌≤◌};
-ghost use Rattle.promela_model.specs.GrammarOfExpressions as grammar;
+ghost use Rattle.promela_grammar.specs.Expressions as grammar;
 ghost use Rattle.pml_expression.specs.Starts as starts;
 
 use pml_token::token::Kind;

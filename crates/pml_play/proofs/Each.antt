@@ -18,7 +18,7 @@ use Rattle.pml_lex.proofs.Scan.{next_is}
 use Rattle.pml_lex.proofs.Steps.{Reached, reached_start, reached_more, reached_end, reached_none}
 use Rattle.pml_lex.proofs.Rows.{too_deep_from, too_deep_is, none_at_all}
 use Rattle.pml_tree.specs.declared.tree.Tree.{Tree}
-use Rattle.promela_model.specs.GrammarOfModels.{Spells}
+use Rattle.promela_grammar.specs.Models.{Spells}
 use Rattle.pml_syntax.specs.ReadingUnits as reading
 use Rattle.pml_syntax.proofs.Whole.{is_found, is_none}
 use Rattle.check_resolve.specs.Model.{numbered_model}

@@ -7,13 +7,13 @@ use Rattle.pml_tree.specs.declared.tree.Variable.{Variable}
 use Rattle.pml_tree.specs.declared.tree.Starts.{Starts}
 use Rattle.pml_tree.specs.declared.tree.Unit.{Unit as Part}
 use Rattle.pml_tree.specs.declared.tree.Tree.{Tree}
-use Rattle.promela_model.specs.GrammarOfExpressions.{SpellsList}
+use Rattle.promela_grammar.specs.Expressions.{SpellsList}
 use Rattle.pml_expression.proofs.Kept.{Leads, here, past, ◌then◌, step, expr_leads, list_leads}
-use Rattle.promela_model.specs.declared.opener.Opener.{Opener}
-use Rattle.promela_model.specs.GrammarOfActions as grammar
-use Rattle.promela_model.specs.GrammarOfModels as loops
-use Rattle.promela_model.specs.GrammarOfActions.{SpellsName, seq_of}
-use Rattle.promela_model.specs.GrammarOfModels.{SpellsBody, SpellsParameter, SpellsMoreParameters, SpellsParameters, SpellsStarts, SpellsSemicolons, SpellsMembers, SpellsUnit, SpellsUnits, Spells}
+use Rattle.promela_grammar.specs.declared.opener.Opener.{Opener}
+use Rattle.promela_grammar.specs.Actions as grammar
+use Rattle.promela_grammar.specs.Models as loops
+use Rattle.promela_grammar.specs.Actions.{SpellsName, seq_of}
+use Rattle.promela_grammar.specs.Models.{SpellsBody, SpellsParameter, SpellsMoreParameters, SpellsParameters, SpellsStarts, SpellsSemicolons, SpellsMembers, SpellsUnit, SpellsUnits, Spells}
 use Rattle.pml_syntax.proofs.Kept.{visibility_leads, opener_leads, declaration_leads, items_lead}
 use Rattle.pml_program.specs.declared.program.Fields.{Fields}
 use Rattle.pml_program.specs.declared.program.Proctype.{Proctype}

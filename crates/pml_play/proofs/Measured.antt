@@ -18,7 +18,7 @@ use Rattle.promela_process.specs.Offers.{first_line}
 use Rattle.promela_model.specs.Stands.{Globals}
 use Rattle.promela_model.specs.StandsModel as stands
 use Rattle.promela_model.specs.StandsModel.{StandsBasic, StandsItems, StandsSeq, StandsOptions}
-use Rattle.promela_model.specs.GrammarOfActions.{item_of, seq_of}
+use Rattle.promela_grammar.specs.Actions.{item_of, seq_of}
 use Rattle.pml_sim.proofs.Weight.{weight_in, weight_part, weight_list, weight_parts, weight_if, weight_do, part_list}
 
 abbrev pub total : List ℕ → ℕ

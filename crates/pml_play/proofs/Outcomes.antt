@@ -13,7 +13,7 @@ use Rattle.pml_lex.proofs.Steps.{one_list}
 use Rattle.promela_text.specs.Inlines.{Expands}
 use Rattle.pml_inline.proofs.Whole.{one_result}
 use Rattle.pml_tree.specs.declared.tree.Tree.{Tree}
-use Rattle.promela_model.specs.GrammarOfModels.{Spells}
+use Rattle.promela_grammar.specs.Models.{Spells}
 use Rattle.pml_syntax.proofs.Whole as trees
 use Rattle.pml_program.specs.declared.program.Program.{Program}
 use Rattle.promela_model.specs.StandsModel.{StandsModel}

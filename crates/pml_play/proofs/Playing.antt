@@ -26,7 +26,7 @@ use Rattle.pml_inline.proofs.Keeping.{kept}
 use Rattle.pml_tree.specs.declared.tree.Tree.{Tree}
 use Rattle.pml_syntax.specs.declared.program.SyntaxError.{SyntaxError}
 use Rattle.pml_syntax.specs.declared.program.SyntaxError.TheVariants as syntax
-use Rattle.promela_model.specs.GrammarOfModels.{Spells}
+use Rattle.promela_grammar.specs.Models.{Spells}
 use Rattle.pml_syntax.specs.Answer.{Answers}
 use Rattle.pml_check.specs.declared.checked.CheckFault.{CheckFault}
 use Rattle.pml_check.specs.declared.checked.CheckFault.TheVariants as check

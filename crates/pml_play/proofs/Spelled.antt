@@ -15,15 +15,15 @@ use Rattle.pml_tree.specs.declared.tree.Item.{Item}
 use Rattle.pml_tree.specs.declared.tree.Reference.{Reference}
 use Rattle.pml_tree.specs.declared.tree.Seq.{Seq}
 use Rattle.promela_process.specs.Offers.{first_line}
-use Rattle.promela_model.specs.GrammarOfExpressions.{between, SpellsReference, SpellsList}
+use Rattle.promela_grammar.specs.Expressions.{between, SpellsReference, SpellsList}
 use Rattle.pml_expression.proofs.Kept.{Leads, ◌then◌, reference_leads, list_leads}
-use Rattle.promela_model.specs.declared.opener.Opener.{Opener}
-use Rattle.promela_model.specs.declared.range.Bound.{Bound}
-use Rattle.promela_model.specs.declared.range.Range.{Range}
-use Rattle.promela_model.specs.GrammarOfActions as grammar
-use Rattle.promela_model.specs.GrammarOfModels as bodies
-use Rattle.promela_model.specs.GrammarOfActions.{SpellsOpener, SpellsDeclaration, item_of, seq_of}
-use Rattle.promela_model.specs.GrammarOfModels.{SpellsBasic, SpellsStatement, SpellsItem, SpellsItems, SpellsOptions, SpellsRange, made_word, setting, comparing, raising, otherwise_item, breaking, turning, for_on, for_out, select_on, select_out, for_of, select_of}
+use Rattle.promela_grammar.specs.declared.opener.Opener.{Opener}
+use Rattle.promela_grammar.specs.declared.range.Bound.{Bound}
+use Rattle.promela_grammar.specs.declared.range.Range.{Range}
+use Rattle.promela_grammar.specs.Actions as grammar
+use Rattle.promela_grammar.specs.Models as bodies
+use Rattle.promela_grammar.specs.Actions.{SpellsOpener, SpellsDeclaration, item_of, seq_of}
+use Rattle.promela_grammar.specs.Models.{SpellsBasic, SpellsStatement, SpellsItem, SpellsItems, SpellsOptions, SpellsRange, made_word, setting, comparing, raising, otherwise_item, breaking, turning, for_on, for_out, select_on, select_out, for_of, select_of}
 use Rattle.pml_syntax.proofs.Begins.{action_moves}
 use Rattle.pml_syntax.proofs.Kept.{visibility_leads, variables_lead, separators_lead, labels_lead, gap_leads, item_leads, items_lead}
 use Rattle.pml_syntax.proofs.Ranges.{range_moves, range_leads}

@@ -5,7 +5,7 @@ use Rattle.diagnostics.specs.declared.refusal.Refusal.{Refusal}
 use Rattle.promela_text.specs.Tokens.{AreTokens, IsLine, IsTooDeep}
 use Rattle.promela_text.specs.Inlines.{has_inline}
 use Rattle.pml_tree.specs.declared.tree.Tree.{Tree}
-use Rattle.promela_model.specs.GrammarOfModels.{Spells}
+use Rattle.promela_grammar.specs.Models.{Spells}
 use Rattle.pml_play.specs.Transcript.{IsRefused, IsSpelled}
 
 -- the text's tokens, and no word `inline` is among them

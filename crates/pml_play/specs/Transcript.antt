@@ -15,7 +15,7 @@ use Rattle.profile.specs.declared.TheConstants.{MOST_TEXT_BYTES}
 use Rattle.promela_text.specs.Tokens.{IsLine, AreTokens, CannotBeCut, HoldsLeftOut}
 use Rattle.promela_text.specs.Inlines.{Expands, IsExpanded, GoesTooDeep}
 use Rattle.pml_tree.specs.declared.tree.Tree.{Tree}
-use Rattle.promela_model.specs.GrammarOfModels.{Spells}
+use Rattle.promela_grammar.specs.Models.{Spells}
 use Rattle.promela_model.specs.StandsModel.{StandsModel}
 use Rattle.promela_run.specs.Judged.{IsFit, IsLeast}
 use Rattle.pml_program.specs.declared.program.Program.{Program}

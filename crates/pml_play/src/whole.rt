@@ -8,7 +8,7 @@ ghost use Rattle.promela_session.specs.Session.{end_of, transcript};
 ghost use Rattle.promela_run.specs.World.{rules};
 ghost use Rattle.session.specs.Writes.{CountsAll, IsOwnEnd, Runs};
 ghost use Rattle.promela_text.specs.Tokens.{AreTokens};
-ghost use Rattle.promela_model.specs.GrammarOfModels.{Spells};
+ghost use Rattle.promela_grammar.specs.Models.{Spells};
 ghost use Rattle.pml_play.specs.Transcript.{AreExpanded, IsModel, IsSpelled, IsTranscript, PlaysWhole, PlaysBroken};
 ghost use Rattle.pml_play.specs.Parts as parts;
 ghost use Rattle.pml_play.specs.Parts.{IsReady, IsRejected, Rejects, PlaysText};

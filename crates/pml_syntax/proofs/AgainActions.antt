@@ -17,10 +17,10 @@ use Rattle.pml_syntax.specs.declared.starts.Deed.{Deed}
 use Rattle.pml_syntax.specs.declared.starts.Deed.TheVariants as d
 use Rattle.pml_syntax.specs.declared.starts.Change.{Change}
 use Rattle.pml_syntax.specs.declared.starts.Change.TheVariants as c
-use Rattle.promela_model.specs.GrammarOfExpressions as terms
-use Rattle.promela_model.specs.GrammarOfActions as grammar
-use Rattle.promela_model.specs.GrammarOfExpressions.{operator, truth_of_word, query, SpellsReference, SpellsExpr, SpellsArgument, SpellsArgumentList, SpellsArguments, SpellsList}
-use Rattle.promela_model.specs.GrammarOfActions.{bang, SpellsRun, SpellsValues, SpellsAction}
+use Rattle.promela_grammar.specs.Expressions as terms
+use Rattle.promela_grammar.specs.Actions as grammar
+use Rattle.promela_grammar.specs.Expressions.{operator, truth_of_word, query, SpellsReference, SpellsExpr, SpellsArgument, SpellsArgumentList, SpellsArguments, SpellsList}
+use Rattle.promela_grammar.specs.Actions.{bang, SpellsRun, SpellsValues, SpellsAction}
 use Rattle.pml_expression.specs.Starts.{start}
 use Rattle.pml_syntax.specs.Starts.{deed, change}
 use Rattle.pml_expression.specs.Reading as expressions

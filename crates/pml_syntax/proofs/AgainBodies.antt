@@ -7,10 +7,10 @@ use Rattle.pml_token.specs.declared.token.Kind.TheVariants as k
 use Rattle.pml_tree.specs.declared.tree.Basic.{Basic}
 use Rattle.pml_tree.specs.declared.tree.Item.{Item}
 use Rattle.pml_tree.specs.declared.tree.Seq.{Seq}
-use Rattle.promela_model.specs.declared.range.Range.{Range}
-use Rattle.promela_model.specs.GrammarOfModels as bodies
-use Rattle.promela_model.specs.GrammarOfActions.{is_separator, is_exclusive, seq_of}
-use Rattle.promela_model.specs.GrammarOfModels.{SpellsBasic, SpellsStatement, SpellsItem, SpellsItems, SpellsOptions, SpellsSeparators, SpellsGap, SpellsLabels, SpellsRange}
+use Rattle.promela_grammar.specs.declared.range.Range.{Range}
+use Rattle.promela_grammar.specs.Models as bodies
+use Rattle.promela_grammar.specs.Actions.{is_separator, is_exclusive, seq_of}
+use Rattle.promela_grammar.specs.Models.{SpellsBasic, SpellsStatement, SpellsItem, SpellsItems, SpellsOptions, SpellsSeparators, SpellsGap, SpellsLabels, SpellsRange}
 use Rattle.pml_syntax.specs.Starts.{opening, declares, is_end}
 use Rattle.pml_expression.specs.Reading.{Read, and_then, pick, next, sees}
 use Rattle.pml_syntax.specs.ReadingStatements as reading

@@ -7,10 +7,10 @@ use Rattle.pml_tree.specs.declared.tree.Scalar.{Scalar}
 use Rattle.pml_tree.specs.declared.tree.Initial.{Initial}
 use Rattle.pml_tree.specs.declared.tree.Reference.{Reference}
 use Rattle.pml_tree.specs.declared.tree.Variable.{Variable}
-use Rattle.promela_model.specs.declared.opener.Opener.{Opener}
-use Rattle.promela_model.specs.GrammarOfActions as grammar
-use Rattle.promela_model.specs.GrammarOfExpressions.{SpellsReference, SpellsList}
-use Rattle.promela_model.specs.GrammarOfActions.{scalar, is_visibility, SpellsScalar, SpellsVisibility, SpellsOpener, SpellsInitial, SpellsVariable, SpellsVariables, SpellsDeclaration}
+use Rattle.promela_grammar.specs.declared.opener.Opener.{Opener}
+use Rattle.promela_grammar.specs.Actions as grammar
+use Rattle.promela_grammar.specs.Expressions.{SpellsReference, SpellsList}
+use Rattle.promela_grammar.specs.Actions.{scalar, is_visibility, SpellsScalar, SpellsVisibility, SpellsOpener, SpellsInitial, SpellsVariable, SpellsVariables, SpellsDeclaration}
 use Rattle.pml_syntax.specs.Starts.{declares}
 use Rattle.pml_expression.specs.Reading as expressions
 use Rattle.pml_expression.specs.Reading.{Read, and_then, pick, next, sees, expect, expect_all, expr}

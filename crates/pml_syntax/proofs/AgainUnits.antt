@@ -10,13 +10,13 @@ use Rattle.pml_tree.specs.declared.tree.Item.{Item}
 use Rattle.pml_tree.specs.declared.tree.Starts.{Starts}
 use Rattle.pml_tree.specs.declared.tree.Unit.{Unit as ModelUnit}
 use Rattle.pml_tree.specs.declared.tree.Tree.{Tree}
-use Rattle.promela_model.specs.declared.opener.Opener.{Opener}
+use Rattle.promela_grammar.specs.declared.opener.Opener.{Opener}
 use Rattle.pml_syntax.specs.declared.starts.Head.TheVariants as h
-use Rattle.promela_model.specs.GrammarOfActions as grammar
-use Rattle.promela_model.specs.GrammarOfModels as bodies
-use Rattle.promela_model.specs.GrammarOfExpressions.{operator, query, SpellsList}
-use Rattle.promela_model.specs.GrammarOfActions.{scalar, is_visibility, SpellsName, SpellsVisibility, SpellsOpener, SpellsVariables, SpellsDeclaration}
-use Rattle.promela_model.specs.GrammarOfModels.{SpellsBody, SpellsSemicolons, SpellsMembers, SpellsParameter, SpellsMoreParameters, SpellsParameters, SpellsStarts, SpellsUnit, SpellsUnits, Spells}
+use Rattle.promela_grammar.specs.Actions as grammar
+use Rattle.promela_grammar.specs.Models as bodies
+use Rattle.promela_grammar.specs.Expressions.{operator, query, SpellsList}
+use Rattle.promela_grammar.specs.Actions.{scalar, is_visibility, SpellsName, SpellsVisibility, SpellsOpener, SpellsVariables, SpellsDeclaration}
+use Rattle.promela_grammar.specs.Models.{SpellsBody, SpellsSemicolons, SpellsMembers, SpellsParameter, SpellsMoreParameters, SpellsParameters, SpellsStarts, SpellsUnit, SpellsUnits, Spells}
 use Rattle.pml_syntax.specs.Starts.{declares, head, is_end}
 use Rattle.pml_expression.specs.Reading as expressions
 use Rattle.pml_expression.specs.Reading.{Read, and_then, pick, next, sees, expect, expect_name, expr, is_empty}
@@ -140,7 +140,7 @@ typed_declares grammar.no_visibility (grammar.of_scalar {w} {s} is) v = scalar_d
 typed_declares grammar.no_visibility (grammar.of_unsigned is) v = at (λ x. declares x ≡ true) is refl
 typed_declares grammar.no_visibility (grammar.of_typedef is) v = absurd (named_none v)
   where
-    named_none : {w : Word} {v : Variable} {from to : List Word} → SpellsParameter (Rattle.promela_model.specs.declared.opener.Opener.TheVariants.Named w) v from to → ⊥
+    named_none : {w : Word} {v : Variable} {from to : List Word} → SpellsParameter (Rattle.promela_grammar.specs.declared.opener.Opener.TheVariants.Named w) v from to → ⊥
     named_none v = elim v [ ]
 
 more_parameters_again : {f : Opener} {vs : List Variable} {from to : List Word} → SpellsMoreParameters f vs from to → (turns : ℕ) → length from ≤ turns → parts_parameters (next to) ≡ false → (found : List Variable) → reading.parameters_from turns f found from ≡ Ok (found ++ vs, to)

@@ -13,10 +13,10 @@ use Rattle.pml_tree.specs.declared.tree.Action.{Action}
 use Rattle.pml_tree.specs.declared.tree.Reference.{Reference}
 use Rattle.pml_tree.specs.declared.tree.Run.{Run}
 use Rattle.pml_tree.specs.declared.tree.Step.{Step}
-use Rattle.promela_model.specs.GrammarOfExpressions as terms
-use Rattle.promela_model.specs.GrammarOfActions as grammar
-use Rattle.promela_model.specs.GrammarOfExpressions.{operator, truth_of_word, fill, query, prefix_operator, SpellsIndex, SpellsFields, SpellsReference, SpellsExpr, SpellsArgument, SpellsArgumentList, SpellsArguments, SpellsList}
-use Rattle.promela_model.specs.GrammarOfActions.{bang, is_separator, is_exclusive, SpellsRun, SpellsValues, SpellsAction}
+use Rattle.promela_grammar.specs.Expressions as terms
+use Rattle.promela_grammar.specs.Actions as grammar
+use Rattle.promela_grammar.specs.Expressions.{operator, truth_of_word, fill, query, prefix_operator, SpellsIndex, SpellsFields, SpellsReference, SpellsExpr, SpellsArgument, SpellsArgumentList, SpellsArguments, SpellsList}
+use Rattle.promela_grammar.specs.Actions.{bang, is_separator, is_exclusive, SpellsRun, SpellsValues, SpellsAction}
 use Rattle.pml_syntax.specs.Starts.{opening, declares}
 use Rattle.pml_syntax.specs.declared.starts.Opening.TheVariants as o
 use Rattle.pml_expression.specs.Reading.{pick, next, sees}

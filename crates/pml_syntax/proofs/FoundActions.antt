@@ -16,10 +16,10 @@ use Rattle.pml_syntax.specs.declared.starts.Deed.{Deed}
 use Rattle.pml_syntax.specs.declared.starts.Deed.TheVariants as d
 use Rattle.pml_syntax.specs.declared.starts.Change.{Change}
 use Rattle.pml_syntax.specs.declared.starts.Change.TheVariants as c
-use Rattle.promela_model.specs.GrammarOfExpressions as terms
-use Rattle.promela_model.specs.GrammarOfActions as grammar
-use Rattle.promela_model.specs.GrammarOfExpressions.{level, query, SpellsReference, SpellsExpr, SpellsArguments, SpellsList}
-use Rattle.promela_model.specs.GrammarOfActions.{bang, run_of, SpellsRun, SpellsValues, SpellsAction}
+use Rattle.promela_grammar.specs.Expressions as terms
+use Rattle.promela_grammar.specs.Actions as grammar
+use Rattle.promela_grammar.specs.Expressions.{level, query, SpellsReference, SpellsExpr, SpellsArguments, SpellsList}
+use Rattle.promela_grammar.specs.Actions.{bang, run_of, SpellsRun, SpellsValues, SpellsAction}
 use Rattle.pml_syntax.specs.Starts.{deed, change}
 use Rattle.pml_expression.specs.Reading as expressions
 use Rattle.pml_expression.specs.Reading.{next, expect_all, expr}

@@ -9,10 +9,10 @@ use Rattle.pml_tree.specs.declared.tree.Item.{Item}
 use Rattle.pml_tree.specs.declared.tree.Seq.{Seq}
 use Rattle.pml_syntax.specs.declared.starts.Opening.{Opening}
 use Rattle.pml_syntax.specs.declared.starts.Opening.TheVariants as o
-use Rattle.promela_model.specs.GrammarOfModels as bodies
-use Rattle.promela_model.specs.GrammarOfExpressions.{between}
-use Rattle.promela_model.specs.GrammarOfActions.{is_separator, is_exclusive, item_of, seq_of, SpellsDeclaration}
-use Rattle.promela_model.specs.GrammarOfModels.{SpellsBasic, SpellsStatement, SpellsItem, SpellsItems, SpellsOptions, SpellsSeparators, SpellsGap, SpellsLabels, SpellsRange}
+use Rattle.promela_grammar.specs.Models as bodies
+use Rattle.promela_grammar.specs.Expressions.{between}
+use Rattle.promela_grammar.specs.Actions.{is_separator, is_exclusive, item_of, seq_of, SpellsDeclaration}
+use Rattle.promela_grammar.specs.Models.{SpellsBasic, SpellsStatement, SpellsItem, SpellsItems, SpellsOptions, SpellsSeparators, SpellsGap, SpellsLabels, SpellsRange}
 use Rattle.pml_syntax.specs.Starts.{opening}
 use Rattle.pml_expression.specs.Reading.{Read, pick, next}
 use Rattle.pml_syntax.specs.ReadingStatements as reading

@@ -9,12 +9,12 @@ use Rattle.pml_tree.specs.declared.tree.Sort.TheVariants as sort
 use Rattle.pml_tree.specs.declared.tree.Initial.{Initial}
 use Rattle.pml_tree.specs.declared.tree.Initial.TheVariants as ini
 use Rattle.pml_tree.specs.declared.tree.Variable.{Variable}
-use Rattle.promela_model.specs.declared.opener.Opener.{Opener}
-use Rattle.promela_model.specs.declared.opener.Opener.TheVariants as opener
-use Rattle.promela_model.specs.GrammarOfExpressions as terms
-use Rattle.promela_model.specs.GrammarOfActions as grammar
-use Rattle.promela_model.specs.GrammarOfExpressions.{SpellsIndex, SpellsReference, SpellsExpr, SpellsList}
-use Rattle.promela_model.specs.GrammarOfActions.{scalar, is_visibility, variable_of, SpellsScalar, SpellsVisibility, SpellsOpener, SpellsInitial, SpellsVariable, SpellsVariables, SpellsDeclaration}
+use Rattle.promela_grammar.specs.declared.opener.Opener.{Opener}
+use Rattle.promela_grammar.specs.declared.opener.Opener.TheVariants as opener
+use Rattle.promela_grammar.specs.Expressions as terms
+use Rattle.promela_grammar.specs.Actions as grammar
+use Rattle.promela_grammar.specs.Expressions.{SpellsIndex, SpellsReference, SpellsExpr, SpellsList}
+use Rattle.promela_grammar.specs.Actions.{scalar, is_visibility, variable_of, SpellsScalar, SpellsVisibility, SpellsOpener, SpellsInitial, SpellsVariable, SpellsVariables, SpellsDeclaration}
 use Rattle.pml_expression.specs.Reading as expressions
 use Rattle.pml_expression.specs.Reading.{pick, next, expect_all, expr}
 use Rattle.pml_syntax.specs.ReadingStatements as reading

@@ -11,16 +11,16 @@ use Rattle.pml_tree.specs.declared.tree.Starts.TheVariants as starting
 use Rattle.pml_tree.specs.declared.tree.Unit.{Unit as ModelUnit}
 use Rattle.pml_tree.specs.declared.tree.Unit.TheVariants as u
 use Rattle.pml_tree.specs.declared.tree.Tree.{Tree}
-use Rattle.promela_model.specs.declared.opener.Opener.{Opener}
-use Rattle.promela_model.specs.declared.opener.Opener.TheVariants as opener
+use Rattle.promela_grammar.specs.declared.opener.Opener.{Opener}
+use Rattle.promela_grammar.specs.declared.opener.Opener.TheVariants as opener
 use Rattle.pml_syntax.specs.declared.starts.Head.{Head}
 use Rattle.pml_syntax.specs.declared.starts.Head.TheVariants as h
-use Rattle.promela_model.specs.GrammarOfExpressions as terms
-use Rattle.promela_model.specs.GrammarOfActions as grammar
-use Rattle.promela_model.specs.GrammarOfModels as bodies
-use Rattle.promela_model.specs.GrammarOfExpressions.{SpellsIndex, SpellsList}
-use Rattle.promela_model.specs.GrammarOfActions.{seq_of, proctype_tree, SpellsName, SpellsVisibility, SpellsOpener, SpellsDeclaration}
-use Rattle.promela_model.specs.GrammarOfModels.{SpellsItems, SpellsBody, SpellsSemicolons, SpellsMembers, SpellsParameter, SpellsMoreParameters, SpellsParameters, SpellsStarts, SpellsUnit, SpellsUnits, Spells}
+use Rattle.promela_grammar.specs.Expressions as terms
+use Rattle.promela_grammar.specs.Actions as grammar
+use Rattle.promela_grammar.specs.Models as bodies
+use Rattle.promela_grammar.specs.Expressions.{SpellsIndex, SpellsList}
+use Rattle.promela_grammar.specs.Actions.{seq_of, proctype_tree, SpellsName, SpellsVisibility, SpellsOpener, SpellsDeclaration}
+use Rattle.promela_grammar.specs.Models.{SpellsItems, SpellsBody, SpellsSemicolons, SpellsMembers, SpellsParameter, SpellsMoreParameters, SpellsParameters, SpellsStarts, SpellsUnit, SpellsUnits, Spells}
 use Rattle.pml_syntax.specs.Starts.{head}
 use Rattle.pml_expression.specs.Reading.{pick, next, sees, expect, expr, is_empty}
 use Rattle.pml_syntax.specs.ReadingStatements.{skip_visibility}

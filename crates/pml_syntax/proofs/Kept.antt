@@ -3,11 +3,11 @@ use Rattle.std.proofs.Common.{◌≡◌, Bool, List, ◌++◌}
 use Rattle.pml_token.specs.Word.{Word}
 use Rattle.pml_tree.specs.declared.tree.Basic.{Basic}
 use Rattle.pml_tree.specs.declared.tree.Item.{Item}
-use Rattle.promela_model.specs.GrammarOfExpressions.{between, SpellsExpr, SpellsList}
-use Rattle.promela_model.specs.GrammarOfActions as grammar
-use Rattle.promela_model.specs.GrammarOfModels as bodies
-use Rattle.promela_model.specs.GrammarOfActions.{SpellsScalar, SpellsRun, SpellsValues, SpellsAction, SpellsVisibility, SpellsOpener, SpellsInitial, SpellsVariable, SpellsVariables, SpellsDeclaration}
-use Rattle.promela_model.specs.GrammarOfModels.{SpellsBasic, SpellsStatement, SpellsItem, SpellsItems, SpellsOptions, SpellsSeparators, SpellsGap, SpellsLabels}
+use Rattle.promela_grammar.specs.Expressions.{between, SpellsExpr, SpellsList}
+use Rattle.promela_grammar.specs.Actions as grammar
+use Rattle.promela_grammar.specs.Models as bodies
+use Rattle.promela_grammar.specs.Actions.{SpellsScalar, SpellsRun, SpellsValues, SpellsAction, SpellsVisibility, SpellsOpener, SpellsInitial, SpellsVariable, SpellsVariables, SpellsDeclaration}
+use Rattle.promela_grammar.specs.Models.{SpellsBasic, SpellsStatement, SpellsItem, SpellsItems, SpellsOptions, SpellsSeparators, SpellsGap, SpellsLabels}
 use Rattle.pml_expression.proofs.Kept.{Leads, here, past, ◌then◌, step, index_leads, reference_leads, expr_leads, arguments_lead, list_leads, cut}
 use Rattle.pml_syntax.proofs.Ranges.{range_leads}
 

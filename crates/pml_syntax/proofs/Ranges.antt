@@ -5,13 +5,13 @@ use Rattle.pml_token.specs.declared.token.Kind.{Kind}
 use Rattle.pml_token.specs.declared.token.Kind.TheVariants as k
 use Rattle.pml_tree.specs.declared.tree.Expr.{Expr}
 use Rattle.pml_tree.specs.declared.tree.Reference.{Reference}
-use Rattle.promela_model.specs.GrammarOfExpressions.{between, SpellsReference, SpellsExpr}
-use Rattle.promela_model.specs.declared.range.Counter.{Counter}
-use Rattle.promela_model.specs.declared.range.Bound.{Bound}
-use Rattle.promela_model.specs.declared.range.Range.{Range}
-use Rattle.promela_model.specs.GrammarOfModels as bodies
-use Rattle.promela_model.specs.GrammarOfActions.{counter_of, bound_of, range_of}
-use Rattle.promela_model.specs.GrammarOfModels.{SpellsRange}
+use Rattle.promela_grammar.specs.Expressions.{between, SpellsReference, SpellsExpr}
+use Rattle.promela_grammar.specs.declared.range.Counter.{Counter}
+use Rattle.promela_grammar.specs.declared.range.Bound.{Bound}
+use Rattle.promela_grammar.specs.declared.range.Range.{Range}
+use Rattle.promela_grammar.specs.Models as bodies
+use Rattle.promela_grammar.specs.Actions.{counter_of, bound_of, range_of}
+use Rattle.promela_grammar.specs.Models.{SpellsRange}
 use Rattle.pml_expression.specs.Reading.{and_then, next, expr}
 use Rattle.pml_syntax.specs.ReadingStatements as reading
 use Rattle.pml_expression.proofs.Steps.{bind_ok, ok_is, expect_ok, expect_again, at, closed_by, reference_moves, expr_moves}

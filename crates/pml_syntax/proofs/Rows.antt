@@ -11,10 +11,10 @@ use Rattle.pml_tree.specs.declared.tree.Reference.{Reference}
 use Rattle.pml_tree.specs.declared.tree.Action.TheVariants as a
 use Rattle.pml_tree.specs.declared.tree.Basic.TheVariants as b
 use Rattle.pml_tree.specs.declared.tree.Item.{Item}
-use Rattle.promela_model.specs.GrammarOfExpressions.{named_step, reference_of}
+use Rattle.promela_grammar.specs.Expressions.{named_step, reference_of}
 use Rattle.pml_expression.specs.Reading as expressions
-use Rattle.promela_model.specs.GrammarOfActions.{item_of, seq_of}
-use Rattle.promela_model.specs.GrammarOfModels.{SpellsItems}
+use Rattle.promela_grammar.specs.Actions.{item_of, seq_of}
+use Rattle.promela_grammar.specs.Models.{SpellsItems}
 use Rattle.pml_syntax.specs.ReadingStatements as reading
 use Rattle.pml_syntax.proofs.FoundBodies.{items_found}
 

@@ -3,7 +3,7 @@ use Rattle.std.proofs.Common.{◌≡◌, ◌+◌, ◌≤◌, true, false, List, 
 use Rattle.pml_token.specs.Word.{Word}
 use Rattle.pml_token.specs.declared.token.Kind.TheVariants as k
 use Rattle.pml_expression.specs.Reading.{next, pick, sees}
-use Rattle.promela_model.specs.GrammarOfActions.{is_separator}
+use Rattle.promela_grammar.specs.Actions.{is_separator}
 use Rattle.pml_syntax.specs.ReadingStatements.{skip_separators, leads_to_run}
 use Rattle.pml_syntax.specs.ReadingUnits.{skip_semicolons}
 

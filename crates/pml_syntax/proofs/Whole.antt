@@ -2,7 +2,7 @@
 use Rattle.std.proofs.Common.{◌≡◌, ℕ, ◌≤◌, List, length, Ok, Err, sym, ap, ◌∙◌, arith}
 use Rattle.pml_token.specs.Word.{Word}
 use Rattle.pml_tree.specs.declared.tree.Tree.{Tree}
-use Rattle.promela_model.specs.GrammarOfModels.{Spells}
+use Rattle.promela_grammar.specs.Models.{Spells}
 use Rattle.pml_syntax.specs.ReadingUnits as reading
 use Rattle.pml_expression.proofs.Steps.{ok_is}
 use Rattle.pml_syntax.proofs.FoundUnits.{model_found}

@@ -9,7 +9,7 @@ use Rattle.pml_tree.specs.declared.tree.Basic.TheVariants as b
 use Rattle.pml_tree.specs.declared.tree.Item.{Item}
 use Rattle.pml_tree.specs.declared.tree.Seq.{Seq}
 use Rattle.pml_tree.specs.declared.tree.Tree.{Tree}
-use Rattle.promela_model.specs.GrammarOfActions.{item_of}
+use Rattle.promela_grammar.specs.Actions.{item_of}
 use Rattle.pml_syntax.specs.declared.program.SyntaxError.{SyntaxError}
 use Rattle.pml_syntax.specs.declared.program.SyntaxError.TheVariants as fault
 use Rattle.pml_syntax.specs.declared.starts.Opening.{Opening}

@@ -22,21 +22,21 @@ use Rattle.pml_tree.specs.declared.tree.Basic.{Basic}
 use Rattle.pml_tree.specs.declared.tree.Basic.TheVariants as b
 use Rattle.pml_tree.specs.declared.tree.Item.{Item}
 use Rattle.pml_tree.specs.declared.tree.Seq.{Seq}
-use Rattle.promela_model.specs.GrammarOfExpressions.{between}
+use Rattle.promela_grammar.specs.Expressions.{between}
 use Rattle.pml_expression.specs.Reading.{Read, ◌>>=◌, when◌then◌else◌, next, sees, refuse, expect, expect_all, expect_name, list_from, values, expr_behind, expr_between, index, reference, arguments, behind, climb, expr}
-use Rattle.promela_model.specs.declared.opener.Opener.{Opener}
-use Rattle.promela_model.specs.declared.opener.Opener.TheVariants as opener
+use Rattle.promela_grammar.specs.declared.opener.Opener.{Opener}
+use Rattle.promela_grammar.specs.declared.opener.Opener.TheVariants as opener
 use Rattle.pml_syntax.specs.declared.starts.Opening.{Opening}
 use Rattle.pml_syntax.specs.declared.starts.Opening.TheVariants as o
 use Rattle.pml_syntax.specs.declared.starts.Deed.{Deed}
 use Rattle.pml_syntax.specs.declared.starts.Deed.TheVariants as d
 use Rattle.pml_syntax.specs.declared.starts.Change.{Change}
 use Rattle.pml_syntax.specs.declared.starts.Change.TheVariants as c
-use Rattle.promela_model.specs.declared.range.Counter.{Counter}
-use Rattle.promela_model.specs.declared.range.Bound.{Bound}
-use Rattle.promela_model.specs.declared.range.Range.{Range}
-use Rattle.promela_model.specs.GrammarOfActions.{scalar, is_visibility, is_exclusive, is_separator, run_of, variable_of, item_of, seq_of, counter_of, bound_of, range_of}
-use Rattle.promela_model.specs.GrammarOfModels.{for_of, select_of}
+use Rattle.promela_grammar.specs.declared.range.Counter.{Counter}
+use Rattle.promela_grammar.specs.declared.range.Bound.{Bound}
+use Rattle.promela_grammar.specs.declared.range.Range.{Range}
+use Rattle.promela_grammar.specs.Actions.{scalar, is_visibility, is_exclusive, is_separator, run_of, variable_of, item_of, seq_of, counter_of, bound_of, range_of}
+use Rattle.promela_grammar.specs.Models.{for_of, select_of}
 use Rattle.pml_syntax.specs.Starts.{opening, deed, change, declares, is_end}
 
 -- whether `run` stands behind any number of `(`

@@ -14,11 +14,11 @@ use Rattle.pml_tree.specs.declared.tree.Unit.{Unit as ModelUnit}
 use Rattle.pml_tree.specs.declared.tree.Unit.TheVariants as u
 use Rattle.pml_tree.specs.declared.tree.Tree.{Tree}
 use Rattle.pml_expression.specs.Reading.{Read, ◌>>=◌, when◌then◌else◌, next, sees, refuse, is_empty, expect, expect_name, list_from, index, expr}
-use Rattle.promela_model.specs.declared.opener.Opener.{Opener}
-use Rattle.promela_model.specs.declared.opener.Opener.TheVariants as opener
+use Rattle.promela_grammar.specs.declared.opener.Opener.{Opener}
+use Rattle.promela_grammar.specs.declared.opener.Opener.TheVariants as opener
 use Rattle.pml_syntax.specs.declared.starts.Head.{Head}
 use Rattle.pml_syntax.specs.declared.starts.Head.TheVariants as h
-use Rattle.promela_model.specs.GrammarOfActions.{variable_of, seq_of, proctype_tree, tree_of}
+use Rattle.promela_grammar.specs.Actions.{variable_of, seq_of, proctype_tree, tree_of}
 use Rattle.pml_syntax.specs.Starts.{declares, head}
 use Rattle.pml_syntax.specs.ReadingStatements.{skip_visibility, opener_of, declaration_from, items}
 

@@ -2,7 +2,7 @@
 
 ghost use Rattle.pml_tree.specs.declared.tree.Action.TheVariants as a;
 ghost use Rattle.pml_tree.specs.declared.tree.Basic.TheVariants as b;
-ghost use Rattle.promela_model.specs.GrammarOfActions as grammar;
+ghost use Rattle.promela_grammar.specs.Actions as grammar;
 ghost use Rattle.pml_syntax.specs.Answer.{Makes, Beside, ItemOf, of_options, of_braces};
 ghost use Rattle.std.specs.Prelude.{◌≡◌, IfOk, [], true, false};
 

@@ -4,8 +4,8 @@ ghost use Rattle.std.specs.Prelude.{◌≡◌, ◌++◌, ◌∷◌, [], IfOk, On
 ghost use Rattle.pml_tree.specs.declared.tree.Action.TheVariants as a;
 ghost use Rattle.pml_tree.specs.declared.tree.Expr.TheVariants as e;
 ghost use Rattle.pml_tree.specs.declared.tree.Basic.TheVariants as b;
-ghost use Rattle.promela_model.specs.GrammarOfActions as grammar;
-ghost use Rattle.promela_model.specs.GrammarOfModels as loops;
+ghost use Rattle.promela_grammar.specs.Actions as grammar;
+ghost use Rattle.promela_grammar.specs.Models as loops;
 
 use crate::boxes;
 use crate::starts::Opening;
@@ -13,7 +13,7 @@ use pml_token::token::{Kind, Token};
 use pml_tree::room::room_for;
 use pml_tree::tokens::Tokens;
 use pml_tree::tree::{Action, Basic, Expr, Infix, Item, Reference, Seq};
-use promela_model::range::{Bound, Counter, Range};
+use promela_grammar::range::{Bound, Counter, Range};
 use sqlite_items::{Boxed, Items};
 use std::alloc::{AllocError, Global};
 

@@ -13,7 +13,7 @@ use pml_expression::fault::ReadFault;
 use pml_expression::references::{index, reference};
 use pml_token::token::{Kind, Token};
 use pml_tree::tree::{Expr, Initial, Reference, Scalar, Sort, Variable};
-use promela_model::opener::Opener;
+use promela_grammar::opener::Opener;
 use sqlite_items::{Boxed, Items};
 use std::alloc::Global;
 

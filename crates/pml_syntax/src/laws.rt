@@ -4,8 +4,8 @@ ghost use Rattle.std.specs.Prelude.{◌≡◌, ◌++◌, List, Bool};
 ghost use Rattle.pml_token.specs.Word.{Word};
 ghost use Rattle.pml_tree.specs.declared.tree.Basic.{Basic};
 ghost use Rattle.pml_tree.specs.declared.tree.Tree.{Tree};
-ghost use Rattle.promela_model.specs.GrammarOfExpressions.{between};
-ghost use Rattle.promela_model.specs.GrammarOfModels.{SpellsBasic, Spells};
+ghost use Rattle.promela_grammar.specs.Expressions.{between};
+ghost use Rattle.promela_grammar.specs.Models.{SpellsBasic, Spells};
 
 /// Tokens have one tree at most.
 pub fn one_tree()

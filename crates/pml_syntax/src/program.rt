@@ -2,7 +2,7 @@
 
 ghost use Rattle.std.specs.Prelude.{◌≡◌, ◌≤◌, ℕ, IfOk, All, Err};
 ghost use Rattle.pml_tree.specs.declared.tree.Tree.{Tree};
-ghost use Rattle.promela_model.specs.GrammarOfModels.{Spells};
+ghost use Rattle.promela_grammar.specs.Models.{Spells};
 ghost use Rattle.pml_syntax.specs.Answer.{Answers, IsOnLine};
 
 use crate::unit::model;

@@ -13,7 +13,7 @@ use pml_expression::fault::ReadFault;
 use pml_token::token::{Kind, Token};
 use pml_tree::tokens::Tokens;
 use pml_tree::tree::{Expr, Reference};
-use promela_model::range::{Bound, Counter, Range};
+use promela_grammar::range::{Bound, Counter, Range};
 use sqlite_items::Boxed;
 use std::alloc::Global;
 

@@ -1,7 +1,7 @@
 //! What a token begins, where a statement is to stand.
 
 ghost use Rattle.std.specs.Prelude.{◌≡◌};
-ghost use Rattle.promela_model.specs.GrammarOfActions as grammar;
+ghost use Rattle.promela_grammar.specs.Actions as grammar;
 ghost use Rattle.pml_syntax.specs.Starts as starts;
 ghost use Rattle.pml_syntax.specs.ReadingUnits as units;
 

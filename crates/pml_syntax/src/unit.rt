@@ -1,7 +1,7 @@
 //! Units of a model.
 
 ghost use Rattle.std.specs.Prelude.{◌≡◌, IfOk, length, []};
-ghost use Rattle.promela_model.specs.GrammarOfActions as grammar;
+ghost use Rattle.promela_grammar.specs.Actions as grammar;
 ghost use Rattle.pml_expression.specs.Reading as expressions;
 ghost use Rattle.pml_expression.specs.Reading.{Reads};
 ghost use Rattle.pml_syntax.specs.ReadingUnits as reading;
@@ -16,7 +16,7 @@ use pml_expression::references::index;
 use pml_token::token::{Kind, Token};
 use pml_tree::room::room_for;
 use pml_tree::tree::{Item, Proctype, Scalar, Seq, Sort, Starts, Tree, Unit, Variable};
-use promela_model::opener::Opener;
+use promela_grammar::opener::Opener;
 use sqlite_items::{Boxed, Items};
 use std::alloc::Global;
 

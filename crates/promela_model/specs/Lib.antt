@@ -1,6 +1,3 @@
-pub mod GrammarOfExpressions
-pub mod GrammarOfActions
-pub mod GrammarOfModels
 pub mod Names
 pub mod Marks
 pub mod Stands

@@ -26,7 +26,7 @@ use Rattle.pml_tree.specs.declared.tree.Argument.{Argument}
 use Rattle.pml_tree.specs.declared.tree.Argument.TheVariants as g
 use Rattle.pml_tree.specs.declared.tree.Reference.{Reference}
 use Rattle.pml_tree.specs.declared.tree.Step.{Step}
-use Rattle.promela_model.specs.GrammarOfExpressions.{named_step, reference_of}
+use Rattle.promela_grammar.specs.Expressions.{named_step, reference_of}
 use Rattle.pml_program.specs.declared.expr.Expr.{Expr}
 use Rattle.pml_program.specs.declared.expr.Expr.TheVariants as v
 use Rattle.pml_program.specs.declared.expr.Want.{Want}

@@ -23,7 +23,7 @@ use Rattle.pml_tree.specs.declared.tree.Basic.{Basic as TreeBasic}
 use Rattle.pml_tree.specs.declared.tree.Basic.TheVariants as form
 use Rattle.pml_tree.specs.declared.tree.Item.{Item}
 use Rattle.pml_tree.specs.declared.tree.Seq.{Seq as TreeSeq}
-use Rattle.promela_model.specs.GrammarOfActions.{item_of, seq_of}
+use Rattle.promela_grammar.specs.Actions.{item_of, seq_of}
 use Rattle.promela_model.specs.Names.{constant, numeral, count_of, length_of, cells_counted}
 use Rattle.promela_model.specs.declared.mark.Role.{Role}
 use Rattle.promela_model.specs.declared.mark.Role.TheVariants as role

@@ -21,7 +21,7 @@ use Rattle.promela_process.specs.Control.{steps}
 use Rattle.promela_model.specs.Stands.{Globals}
 use Rattle.promela_model.specs.StandsModel as stands
 use Rattle.promela_model.specs.StandsModel.{StandsBasic, StandsItems, StandsSeq, StandsOptions}
-use Rattle.promela_model.specs.GrammarOfActions.{item_of, seq_of}
+use Rattle.promela_grammar.specs.Actions.{item_of, seq_of}
 use Rattle.view_waits.specs.Filled.{IsFilled, HasSteps, SomeSteps, EachStep, HasOptions, EachOption, IsFilledBody}
 
 -- ---- a tree

@@ -10,10 +10,10 @@ use Rattle.pml_tree.specs.declared.tree.Item.{Item}
 use Rattle.pml_tree.specs.declared.tree.Seq.{Seq}
 use Rattle.pml_tree.specs.declared.tree.Unit.{Unit as Part}
 use Rattle.pml_tree.specs.declared.tree.Tree.{Tree}
-use Rattle.promela_model.specs.declared.range.Range.{Range}
-use Rattle.promela_model.specs.GrammarOfModels as bodies
-use Rattle.promela_model.specs.GrammarOfActions.{item_of, seq_of}
-use Rattle.promela_model.specs.GrammarOfModels.{SpellsBasic, SpellsStatement, SpellsItem, SpellsItems, SpellsOptions, SpellsBody, for_of, select_of, for_on, for_out, select_on, select_out, setting, raising, otherwise_item, breaking, turning, SpellsUnit, SpellsUnits, Spells}
+use Rattle.promela_grammar.specs.declared.range.Range.{Range}
+use Rattle.promela_grammar.specs.Models as bodies
+use Rattle.promela_grammar.specs.Actions.{item_of, seq_of}
+use Rattle.promela_grammar.specs.Models.{SpellsBasic, SpellsStatement, SpellsItem, SpellsItems, SpellsOptions, SpellsBody, for_of, select_of, for_on, for_out, select_on, select_out, setting, raising, otherwise_item, breaking, turning, SpellsUnit, SpellsUnits, Spells}
 use Rattle.pml_program.specs.declared.program.Fields.{Fields}
 use Rattle.pml_program.specs.declared.program.Proctype.{Proctype}
 use Rattle.pml_program.specs.declared.program.Program.{Program}

@@ -1,5 +1,5 @@
 use Rattle.std.proofs.Common.{◌≡◌, ◌-◌, drop, Ok, rules, arith}
-use Rattle.promela_model.specs.GrammarOfExpressions.{prefix_level}
+use Rattle.promela_grammar.specs.Expressions.{prefix_level}
 use Rattle.pml_expression.specs.Starts.{start}
 use Rattle.pml_expression.specs.declared.operators.Start.TheVariants as s
 use Rattle.std.proofs.lemmas.Grind.{common_steps}

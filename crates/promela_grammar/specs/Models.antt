@@ -17,10 +17,10 @@ use Rattle.pml_tree.specs.declared.tree.Basic.{Basic}
 use Rattle.pml_tree.specs.declared.tree.Basic.TheVariants as b
 use Rattle.pml_tree.specs.declared.tree.Item.{Item}
 use Rattle.pml_tree.specs.declared.tree.Seq.{Seq}
-use Rattle.promela_model.specs.declared.range.Bound.{Bound}
-use Rattle.promela_model.specs.declared.range.Range.{Range}
-use Rattle.promela_model.specs.GrammarOfExpressions.{between, SpellsReference, SpellsExpr, SpellsList}
-use Rattle.promela_model.specs.GrammarOfActions.{is_exclusive, is_separator, item_of, seq_of, counter_of, bound_of, range_of, SpellsAction, SpellsDeclaration, variable_of, proctype_tree, tree_of, SpellsName, SpellsVisibility, SpellsOpener}
+use Rattle.promela_grammar.specs.declared.range.Bound.{Bound}
+use Rattle.promela_grammar.specs.declared.range.Range.{Range}
+use Rattle.promela_grammar.specs.Expressions.{between, SpellsReference, SpellsExpr, SpellsList}
+use Rattle.promela_grammar.specs.Actions.{is_exclusive, is_separator, item_of, seq_of, counter_of, bound_of, range_of, SpellsAction, SpellsDeclaration, variable_of, proctype_tree, tree_of, SpellsName, SpellsVisibility, SpellsOpener}
 use Rattle.pml_tree.specs.declared.tree.Scalar.{Scalar}
 use Rattle.pml_tree.specs.declared.tree.Sort.TheVariants as sort
 use Rattle.pml_tree.specs.declared.tree.Starts.{Starts}
@@ -28,8 +28,8 @@ use Rattle.pml_tree.specs.declared.tree.Starts.TheVariants as starts
 use Rattle.pml_tree.specs.declared.tree.Unit.{Unit as ModelUnit}
 use Rattle.pml_tree.specs.declared.tree.Unit.TheVariants as u
 use Rattle.pml_tree.specs.declared.tree.Tree.{Tree}
-use Rattle.promela_model.specs.declared.opener.Opener.{Opener}
-use Rattle.promela_model.specs.declared.opener.Opener.TheVariants as opener
+use Rattle.promela_grammar.specs.declared.opener.Opener.{Opener}
+use Rattle.promela_grammar.specs.declared.opener.Opener.TheVariants as opener
 
 -- ---- what `for` and `select` stand for
 

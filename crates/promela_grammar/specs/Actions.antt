@@ -29,12 +29,12 @@ use Rattle.pml_tree.specs.declared.tree.Starts.{Starts}
 use Rattle.pml_tree.specs.declared.tree.Proctype.{Proctype}
 use Rattle.pml_tree.specs.declared.tree.Unit.{Unit as ModelUnit}
 use Rattle.pml_tree.specs.declared.tree.Tree.{Tree}
-use Rattle.promela_model.specs.declared.opener.Opener.{Opener}
-use Rattle.promela_model.specs.declared.opener.Opener.TheVariants as opener
-use Rattle.promela_model.specs.declared.range.Counter.{Counter}
-use Rattle.promela_model.specs.declared.range.Bound.{Bound}
-use Rattle.promela_model.specs.declared.range.Range.{Range}
-use Rattle.promela_model.specs.GrammarOfExpressions.{query, SpellsIndex, SpellsReference, SpellsExpr, SpellsArguments, SpellsList}
+use Rattle.promela_grammar.specs.declared.opener.Opener.{Opener}
+use Rattle.promela_grammar.specs.declared.opener.Opener.TheVariants as opener
+use Rattle.promela_grammar.specs.declared.range.Counter.{Counter}
+use Rattle.promela_grammar.specs.declared.range.Bound.{Bound}
+use Rattle.promela_grammar.specs.declared.range.Range.{Range}
+use Rattle.promela_grammar.specs.Expressions.{query, SpellsIndex, SpellsReference, SpellsExpr, SpellsArguments, SpellsList}
 
 -- ---- what the tokens mean alone
 
