@@ -27,7 +27,7 @@ use Rattle.pml_program.specs.declared.program.Proctype.{Proctype}
 use Rattle.pml_program.specs.declared.program.Program.{Program}
 use Rattle.check_resolve.specs.Model.{numbered_model}
 use Rattle.promela_run.specs.State.{State, first_state}
-use Rattle.promela_run.specs.Judged.{condition_of, BreaksModel, KeepsModel, HasBadStart, HasGoodStart, AppliesTo, FitsTo, Applies, Fits, IsFit, IsLeast}
+use Rattle.promela_refusals.specs.Judged.{condition_of, BreaksModel, KeepsModel, HasBadStart, HasGoodStart, AppliesTo, FitsTo, Applies, Fits, IsFit, IsLeast}
 use Rattle.pml_check.specs.Decided.{all_judged, FitsAll, IsFirst}
 use Rattle.pml_check.proofs.Seeking.{OneBelow, NoneBelow, below, of_list}
 use Rattle.pml_check.proofs.Ends.{are_ends}

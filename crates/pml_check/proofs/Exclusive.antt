@@ -14,7 +14,7 @@ use Rattle.promela_process.specs.Control.{BadFirstPoint, FirstPointsFit, Circle,
 use Rattle.pml_control.proofs.Settling.{circle_not}
 use Rattle.pml_program.specs.declared.program.Proctype.{Proctype}
 use Rattle.pml_program.specs.declared.program.Program.{Program}
-use Rattle.promela_run.specs.Judged.{condition_of, BreaksModel, KeepsModel, SomeBody, EachBody, HasBadStart, HasGoodStart, AppliesTo, FitsTo}
+use Rattle.promela_refusals.specs.Judged.{condition_of, BreaksModel, KeepsModel, SomeBody, EachBody, HasBadStart, HasGoodStart, AppliesTo, FitsTo}
 
 some_none : (p : List Mark → Mark → Bool) (ms : List Mark) → Somewhere p ms → Nowhere p ms → ⊥
 some_none p ms h f = let e : true ≡ false = sym h.3 ∙ f h.0 h.1 h.2 in absurd cc

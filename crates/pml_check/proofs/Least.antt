@@ -9,7 +9,7 @@ use Rattle.promela_model.specs.declared.mark.Mark.{Mark}
 use Rattle.promela_model.specs.Marks.{of_tree}
 use Rattle.pml_program.specs.declared.program.Program.{Program}
 use Rattle.check_resolve.specs.Model.{numbered_model}
-use Rattle.promela_run.specs.Judged.{AppliesTo, FitsTo, IsFit, IsLeast}
+use Rattle.promela_refusals.specs.Judged.{AppliesTo, FitsTo, IsFit, IsLeast}
 use Rattle.pml_check.specs.Decided.{all_judged, FitsAll, IsFirst}
 use Rattle.pml_check.proofs.Exclusive.{apart}
 use Rattle.pml_check.proofs.Standing.{applies_by, applied, fits_by, not_both}

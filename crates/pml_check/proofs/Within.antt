@@ -31,7 +31,7 @@ use Rattle.promela_model.specs.Stands.{cells_in_all}
 use Rattle.check_meaning.proofs.Limits.{Few, AllFew, all-few, room, Rooms}
 use Rattle.check_meaning.proofs.Limited.{IsLimited, model-limited}
 use Rattle.run_start.specs.Bound.{cells_of, largest, room_by, room_of, room_of_fields, room_of_processes, IsWithin}
-use Rattle.promela_run.specs.Judged.{FitsTo}
+use Rattle.promela_refusals.specs.Judged.{FitsTo}
 use Rattle.pml_check.specs.Decided.{all_judged, FitsAll}
 
 -- ---- the marks

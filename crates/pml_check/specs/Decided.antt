@@ -7,7 +7,7 @@ use Rattle.promela_model.specs.Decided as marks
 use Rattle.promela_model.specs.declared.condition.Condition.{Condition}
 use Rattle.pml_program.specs.declared.program.Proctype.{Proctype}
 use Rattle.pml_program.specs.declared.program.Program.{Program}
-use Rattle.promela_run.specs.Judged.{SomeBody, EachBody, HasBadStart, HasGoodStart, BreaksModel, KeepsModel, AppliesTo, FitsTo}
+use Rattle.promela_refusals.specs.Judged.{SomeBody, EachBody, HasBadStart, HasGoodStart, BreaksModel, KeepsModel, AppliesTo, FitsTo}
 use Rattle.promela_process.specs.Control.{BadFirstPoint, Circle, FirstPointsFit, SettlesEverywhere}
 
 abbrev pub DecidesCircles : Bool → List Proctype → Type 0

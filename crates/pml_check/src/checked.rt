@@ -1,7 +1,7 @@
 //! The checks.
 
 ghost use Rattle.std.specs.Prelude.{◌≡◌, IfOk, IfErr, OnOk};
-ghost use Rattle.promela_run.specs.Judged.{IsFit, IsLeast};
+ghost use Rattle.promela_refusals.specs.Judged.{IsFit, IsLeast};
 ghost use Rattle.pml_check.specs.Checked.{IsRefused};
 ghost use Rattle.promela_model.specs.StandsModel.{StandsModel};
 
@@ -62,7 +62,7 @@ impl<'a> Model for Checked<'a> {
 impl<'a> Checked<'a> {
     ghost use Rattle.pml_flow.specs.Graph.{AreGraphs};
     ghost use Rattle.run_start.specs.Bound.{IsWithin};
-    ghost use Rattle.promela_run.specs.Judged.{HasGoodStart};
+    ghost use Rattle.promela_refusals.specs.Judged.{HasGoodStart};
 
     /// The model: its cells and its channels are within the limits, and no variable of its first state begins with a fault.
     pub fn program(&self) -> &Program<'a>

@@ -8,7 +8,7 @@ ghost use Rattle.promela_model.specs.declared.mark.Mark.{Mark};
 ghost use Rattle.promela_model.specs.Marks.{of_tree};
 ghost use Rattle.pml_program.specs.declared.program.Program.{Program};
 ghost use Rattle.check_resolve.specs.Model.{numbered_model};
-ghost use Rattle.promela_run.specs.Judged.{condition_of};
+ghost use Rattle.promela_refusals.specs.Judged.{condition_of};
 ghost use Rattle.pml_check.specs.Decided.{DecidesCircles, DecidesSteps, DecidesCondition, DecidesModel, Decides, Finds, all_judged};
 ghost use Rattle.pml_check.specs.Broken.{AreBroken};
 ghost use Rattle.pml_check.specs.Subject.{IsSubject};

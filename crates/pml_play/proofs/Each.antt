@@ -23,7 +23,7 @@ use Rattle.pml_syntax.specs.ReadingUnits as reading
 use Rattle.pml_syntax.proofs.Whole.{is_found, is_none}
 use Rattle.check_resolve.specs.Model.{numbered_model}
 use Rattle.check_meaning.proofs.Model.{model-stands}
-use Rattle.promela_run.specs.Judged.{FitsTo, HasGoodStart, IsFit, IsLeast}
+use Rattle.promela_refusals.specs.Judged.{FitsTo, HasGoodStart, IsFit, IsLeast}
 use Rattle.pml_check.proofs.Standing.{fitted}
 use Rattle.pml_check.proofs.Deciding.{judge}
 use Rattle.promela_run.specs.World.{first, rules}

@@ -19,7 +19,7 @@ use Rattle.pml_program.specs.declared.program.Program.{Program}
 use Rattle.promela_model.specs.StandsModel.{StandsModel}
 use Rattle.check_meaning.proofs.Model.{one-model}
 use Rattle.promela_model.specs.declared.mark.Mark.{Mark}
-use Rattle.promela_run.specs.Judged.{AppliesTo, IsFit, IsLeast}
+use Rattle.promela_refusals.specs.Judged.{AppliesTo, IsFit, IsLeast}
 use Rattle.pml_check.proofs.Least.{one_least, fit_has_none}
 use Rattle.diagnostics.specs.declared.fault.Fault.{Fault}
 use Rattle.promela_run.specs.State.{State, first_state}

@@ -12,7 +12,7 @@ use Rattle.pml_tree.specs.declared.tree.Tree.{Tree}
 use Rattle.promela_model.specs.declared.mark.Mark.{Mark}
 use Rattle.pml_program.specs.declared.program.Program.{Program}
 use Rattle.promela_grammar.specs.Models.{Spells}
-use Rattle.promela_run.specs.Judged.{AppliesTo}
+use Rattle.promela_refusals.specs.Judged.{AppliesTo}
 use Rattle.pml_play.specs.Transcript.{AreExpanded, IsSpelled, IsRefused, too_long, lexical, left_out, inline, too_deep, unspelled, unfit}
 use Rattle.pml_play.specs.Plain.{ArePlain, SpellItself, SpellNothing, SayTheSame}
 

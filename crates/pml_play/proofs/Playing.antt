@@ -31,7 +31,7 @@ use Rattle.pml_syntax.specs.Answer.{Answers}
 use Rattle.pml_check.specs.declared.checked.CheckFault.{CheckFault}
 use Rattle.pml_check.specs.declared.checked.CheckFault.TheVariants as check
 use Rattle.pml_check.specs.Checked.{IsRefused}
-use Rattle.promela_run.specs.Judged.{IsFit}
+use Rattle.promela_refusals.specs.Judged.{IsFit}
 use Rattle.pml_program.specs.declared.program.Program.{Program}
 use Rattle.promela_model.specs.StandsModel.{StandsModel}
 use Rattle.pml_play.specs.declared.whole.Rejection.{Rejection}

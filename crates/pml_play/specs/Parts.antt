@@ -19,7 +19,7 @@ use Rattle.pml_syntax.specs.declared.program.SyntaxError.TheVariants as syntax
 use Rattle.pml_tree.specs.declared.tree.Tree.{Tree}
 use Rattle.pml_program.specs.declared.program.Program.{Program}
 use Rattle.promela_model.specs.StandsModel.{StandsModel}
-use Rattle.promela_run.specs.Judged.{IsFit}
+use Rattle.promela_refusals.specs.Judged.{IsFit}
 use Rattle.pml_check.specs.declared.checked.CheckFault.{CheckFault}
 use Rattle.pml_check.specs.declared.checked.CheckFault.TheVariants as check
 use Rattle.pml_play.specs.declared.whole.Rejection.{Rejection}

@@ -17,7 +17,7 @@ use Rattle.promela_text.specs.Inlines.{Expands, IsExpanded, GoesTooDeep}
 use Rattle.pml_tree.specs.declared.tree.Tree.{Tree}
 use Rattle.promela_grammar.specs.Models.{Spells}
 use Rattle.promela_model.specs.StandsModel.{StandsModel}
-use Rattle.promela_run.specs.Judged.{IsFit, IsLeast}
+use Rattle.promela_refusals.specs.Judged.{IsFit, IsLeast}
 use Rattle.pml_program.specs.declared.program.Program.{Program}
 use Rattle.promela_run.specs.State.{State, first_state}
 use Rattle.promela_run.specs.World.{Running, first, rules}

@@ -4,4 +4,3 @@ pub mod Moves
 pub mod Lines
 pub mod Steps
 pub mod World
-pub mod Judged
