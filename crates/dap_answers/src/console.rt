@@ -14,7 +14,7 @@ use dap_messages::words::words_of;
 use serde_json::{Value, json};
 use std::alloc::AllocError;
 use view_session::answers::{Reply, Setting, answer, go_further};
-use view_session::names::name_of;
+use view_commands::names::name_of;
 use view_session::seen::picture_of;
 use view_session::steps::move_at;
 use view_walk::leg::Leg;

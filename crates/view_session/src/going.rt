@@ -3,10 +3,9 @@
 ghost use Rattle.view_text.specs.Written.{Stays};
 ghost use Rattle.view_walk.specs.Walks.{SameModel};
 
-use crate::command::{Command, USUAL_RUN};
 use crate::listed::add_no_process;
 use crate::question::add_question;
-use crate::seeking::{RunMode, go_back_by, go_back_seeking, go_seeking};
+use crate::seeking::{go_back_by, go_back_seeking, go_seeking};
 use crate::seen::picture_of;
 use crate::stopped::add_stop;
 use crate::taking::{take_by_chance, take_legs, take_next, take_of, take_run};
@@ -14,6 +13,7 @@ use crate::told::Told;
 use crate::watch::{add_unknown, watch_of};
 use crate::written::{Cell, cell_before, cell_named, last_written};
 use std::alloc::AllocError;
+use view_commands::command::{Command, RunMode, USUAL_RUN};
 use view_text::writer::Writer;
 use view_walk::walk::Walk;
 

@@ -4,14 +4,9 @@
 pub mod answers;
 pub mod branches;
 pub mod charted;
-pub mod command;
-mod forms;
 mod going;
-mod help;
 mod listed;
-pub mod names;
 pub mod notes;
-mod others;
 pub mod past;
 pub mod question;
 pub mod record;

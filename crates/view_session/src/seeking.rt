@@ -12,6 +12,7 @@ use promela_run::moves::Move;
 use rand_core::utils::NextWord;
 use rand_pcg::Pcg32;
 use std::alloc::AllocError;
+use view_commands::command::RunMode;
 use view_walk::walk::{Walk, Went};
 
 /// So many steps are taken at most with their lines.
@@ -19,17 +20,6 @@ pub const MOST_SHOWN: usize = 10_000;
 
 /// So many are taken at most by chance, without their lines.
 pub const MOST_BY_CHANCE: usize = 1_000_000;
-
-/// How a run goes on.
-#[derive(Clone, Copy, Debug, PartialEq, Eq)]
-pub enum RunMode {
-    /// By steps with one move.
-    Forced,
-    /// By steps of the process with this number alone.
-    Process(usize),
-    /// By chance, by the generator with this seed.
-    Chance(u64),
-}
 
 // The next step of a run, or why it stops.
 #[derive(Clone, Copy)]

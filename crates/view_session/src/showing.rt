@@ -2,12 +2,12 @@
 
 ghost use Rattle.view_text.specs.Written.{Stays};
 
-use crate::command::Command;
 use crate::told::Told;
 use crate::watch::{condition_of, watch_for, watch_of};
 use crate::watches::add_worth;
 use pml_sim::world::World;
 use std::alloc::AllocError;
+use view_commands::command::Command;
 
 // Says that no more are kept.
 fn add_full(name: &str, told: &mut Told)

@@ -3,10 +3,11 @@
 ghost use Rattle.view_text.specs.Written.{Stays};
 
 use crate::seen::picture_of;
-use crate::until::{Aim, Goal, GoalMet, NoAim, aim_of, is_reached, wanted};
+use crate::until::{Aim, GoalMet, NoAim, aim_of, is_reached};
 use diagnostics::Fault;
 use pml_sim::world::World;
 use std::alloc::{AllocError, Global};
+use view_commands::goals::{Goal, wanted};
 use view_condition::condition::{StateCondition, condition_in};
 use view_condition::subject::TypedProcess;
 use view_condition::unread::Unread;

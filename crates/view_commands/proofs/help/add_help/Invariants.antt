@@ -1,5 +1,5 @@
 use Rattle.view_text.specs.Written.{Stays}
-use Rattle.view_session.proofs.help.add_help.Given as goal
+use Rattle.view_commands.proofs.help.add_help.Given as goal
 
 abbrev pub invariant-loop-line : goal.invariant-loop-line
 invariant-loop-line l = Stays l.fn.out l.out

@@ -1,8 +1,7 @@
 //! What stands behind the name of a command.
 
-use crate::command::{Command, USUAL_RUN};
+use crate::command::{Command, RunMode, USUAL_RUN};
 use crate::names::Name;
-use crate::seeking::RunMode;
 
 fn number(word: &str) -> Option<usize> {
     match word.parse::<usize>() {

@@ -3,13 +3,23 @@
 use crate::forms::{behind, with_words};
 use crate::names::name_of;
 use crate::others::told_of;
-use crate::seeking::RunMode;
 
 /// How many steps with one move are taken unasked.
 pub const MOST_UNASKED: usize = 100;
 
 /// How many `run` takes, where it is not said.
 pub const USUAL_RUN: usize = 1000;
+
+/// How a run goes on.
+#[derive(Clone, Copy, Debug, PartialEq, Eq)]
+pub enum RunMode {
+    /// By steps with one move.
+    Forced,
+    /// By steps of the process with this number alone.
+    Process(usize),
+    /// By chance, by the generator with this seed.
+    Chance(u64),
+}
 
 /// What a line says.
 #[derive(Clone, Copy, Debug, PartialEq, Eq)]
