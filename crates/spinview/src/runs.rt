@@ -213,6 +213,7 @@ fn run_sheet(
     ensures { SameModel walk.old walk.new }
 {
     let mut sheet = sheet_of(rt, replay);
+    sheet.has_items = page.is_some();
     let end = run_lines(rt, walk, replay, asked, page.is_some(), &mut sheet)?;
     if asked.form == RunForm::Json {
         show_lines(rt, &sheet.lines)?;

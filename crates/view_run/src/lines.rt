@@ -32,6 +32,8 @@ use view_walk::walk::{Walk, Went};
 pub struct Sheet {
     pub lines: Writer,
     pub items: Writer,
+    /// Whether items are wanted.
+    pub has_items: bool,
     /// What was shown last.
     pub shown: Shown,
     /// What a trail says beside steps.
@@ -48,6 +50,7 @@ impl Sheet {
         Sheet {
             lines: Writer::new(alloc),
             items: Writer::new(alloc),
+            has_items: false,
             shown: Shown::new(alloc),
             notes: Notes::new(alloc),
             states: States::new(alloc),
@@ -59,6 +62,36 @@ impl Sheet {
         ensures { self.new.lines ≡ self.old.lines }
     {
         self.shown = Shown::new(self.lines.allocator());
+    }
+
+    // Writes the item of a step with this text that printed these bytes, if items are wanted.
+    fn add_item(&mut self, text: &Writer, taking: Taking<'_>, printed: &[u8])
+        ensures { self.new.lines ≡ self.old.lines }
+    {
+        if self.has_items {
+            let of = taking.moves.len();
+            self.items.keep_refusal(text);
+            add_item(text.bytes(), printed, taking.choice, of, &mut self.items);
+        }
+    }
+
+    // Writes the item of a step with this text that came to a fault, if items are wanted.
+    fn add_fault_item(&mut self, text: &Writer, fault: Fault)
+        ensures { self.new.lines ≡ self.old.lines }
+    {
+        if self.has_items {
+            self.items.keep_refusal(text);
+            add_fault_item(text.bytes(), fault, &mut self.items);
+        }
+    }
+
+    // Writes the item of an end, if items are wanted.
+    fn add_end_item(&mut self, end: &str)
+        ensures { self.new.lines ≡ self.old.lines }
+    {
+        if self.has_items {
+            add_end_item(end.as_bytes(), &mut self.items);
+        }
     }
 }
 
@@ -163,6 +196,17 @@ fn add_faulted(walk: &Walk<'_, '_>, fault: Fault, taking: Taking<'_>, sheet: &mu
     add_end(&picture, walk.at(), "fault", &[], None, lines);
 }
 
+// The text of a move, if items are wanted.
+fn item_text(walk: &Walk<'_, '_>, m: &Move, sheet: &Sheet) -> Writer
+    ensures { sheet.now.has_items ≡ false → result.text ≡ [] }
+{
+    let mut text = Writer::new(sheet.lines.allocator());
+    if sheet.has_items {
+        add_move(&picture_of(walk.world()), m, &mut text);
+    }
+    text
+}
+
 // Takes a step and writes it. Why the run ends, where it does.
 fn take(
     walk: &mut Walk<'_, '_>,
@@ -172,8 +216,7 @@ fn take(
     ensures { SameModel walk.old walk.new }
 {
     let alloc = sheet.lines.allocator();
-    let mut text = Writer::new(alloc);
-    add_move(&picture_of(walk.world()), &taking.m, &mut text);
+    let text = item_text(walk, &taking.m, sheet);
     let front = front_of(walk, "step", taking, sheet);
     let choices = choices_of(&picture_of(walk.world()), alloc, taking.moves);
     let older = walk.world().process_count();
@@ -181,15 +224,7 @@ fn take(
     step_from(walk, sheet)?;
     match choose(walk, taking.choice, &mut printed)? {
         Went::On => {
-            let of = taking.moves.len();
-            sheet.items.keep_refusal(&text);
-            add_item(
-                text.bytes(),
-                printed.as_slice(),
-                taking.choice,
-                of,
-                &mut sheet.items,
-            );
+            sheet.add_item(&text, taking, printed.as_slice());
             let taken = Taken {
                 choices: &choices,
                 older,
@@ -199,8 +234,7 @@ fn take(
             Ok(None)
         }
         Went::Faults(fault) => {
-            sheet.items.keep_refusal(&text);
-            add_fault_item(text.bytes(), fault, &mut sheet.items);
+            sheet.add_fault_item(&text, fault);
             add_faulted(walk, fault, taking, sheet);
             Ok(Some("fault"))
         }
@@ -271,7 +305,7 @@ pub fn add_next_of<S: Source>(
         Next::Take(choice) => Ok(take_choice(walk, moves, choice, sheet)?),
         Next::End(end) => {
             add_ending(walk, end, moves, sheet)?;
-            add_end_item(end.as_bytes(), &mut sheet.items);
+            sheet.add_end_item(end);
             Ok(Some(end))
         }
     }

@@ -9,6 +9,19 @@ use itoa::Buffer;
 use std::alloc::{AllocError, Global};
 use std::marker::Model;
 
+/// A text that begins has room for so many bytes.
+const FIRST_ROOM: usize = 64;
+
+// Appends bytes, and makes room for some more where there is none at all.
+fn append(text: &mut Vec<u8>, bytes: &[u8]) -> Result<(), AllocError>
+    ensures { OnOk result (text.new.items ≡ text.old.items ++ bytes.now) }
+{
+    if text.capacity() == 0 && bytes.len() < FIRST_ROOM {
+        text.reserve(FIRST_ROOM)?;
+    }
+    text.extend_from_slice(bytes)
+}
+
 /// A text that grows. Where memory is refused, what is written from there on is left out.
 #[derive(Drop)]
 pub struct Writer {
@@ -42,7 +55,7 @@ impl Writer {
         if self.is_refused {
             return;
         }
-        self.is_refused = self.text.extend_from_slice(bytes).is_err();
+        self.is_refused = append(&mut self.text, bytes).is_err();
     }
 
     /// Writes a number.

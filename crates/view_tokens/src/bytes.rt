@@ -1,7 +1,8 @@
 //! Bytes behind bytes: with a comma between them or not, with escapes, or in memory that one of them has.
 
-ghost use Rattle.std.specs.Prelude.{◌≡◌, ◌≤◌, ◌++◌, ◌∷◌, [], IfOk, OnOk, OnErr, length, cond};
+ghost use Rattle.std.specs.Prelude.{◌≡◌, ◌≤◌, ◌+◌, ◌++◌, ◌∷◌, [], IfOk, OnOk, OnErr, length, cond};
 ghost use Rattle.std.specs.Str.{IsUtf8};
+ghost use Rattle.std.specs.Vec.{vec_len, vec_capacity};
 ghost use Rattle.json.specs.Token.{key, string};
 ghost use Rattle.json.specs.Print.{token_text};
 ghost use Rattle.view_text.specs.Written.{Adds};
@@ -9,12 +10,27 @@ ghost use Rattle.view_text.specs.Written.{Adds};
 use std::alloc::{AllocError, Global};
 use view_text::writer::Writer;
 
+// A text that begins has room for so many bytes.
+const FIRST_ROOM: usize = 256;
+
+// Makes room for so many bytes more, and at first for many.
+fn make_room(out: &mut Vec<u8>, more: usize) -> Result<(), AllocError>
+    ensures items { out.new.items ≡ out.old.items }
+    ensures room { OnOk result (vec_len out.new + more ≤ vec_capacity out.new) }
+{
+    if out.capacity() == 0 && more < FIRST_ROOM {
+        out.reserve(FIRST_ROOM)
+    } else {
+        out.reserve(more)
+    }
+}
+
 // Appends bytes, behind a comma or not: all of it or nothing.
 pub(crate) fn append(out: &mut Vec<u8>, comma: bool, bytes: &[u8]) -> Result<(), AllocError>
     ensures added { OnOk result (out.new.items ≡ out.old.items ++ (cond comma (44 ∷ []) [] ++ bytes.now)) }
     ensures kept { OnErr result (out.new.items ≡ out.old.items) }
 {
-    out.reserve(bytes.len() + 1)?;
+    make_room(out, bytes.len() + 1)?;
     if comma {
         out.push_reserved(b',');
     }
@@ -32,7 +48,7 @@ pub(crate) fn append_quoted(
     ensures added { OnOk result (out.new.items ≡ out.old.items ++ (cond comma (44 ∷ []) [] ++ 34 ∷ (bytes.now ++ close.now))) }
     ensures kept { OnErr result (out.new.items ≡ out.old.items) }
 {
-    out.reserve(bytes.len() + 4)?;
+    make_room(out, bytes.len() + 4)?;
     if comma {
         out.push_reserved(b',');
     }
@@ -87,11 +103,11 @@ fn add_large(text: Vec<u8>, out: &mut Writer)
     }
 }
 
-// Writes a text.
+// Writes a text: a large one, or one with nothing before it, in its own memory.
 pub(crate) fn add_whole(text: Vec<u8>, out: &mut Writer)
     ensures { Adds out.old out.new text.items }
 {
-    if text.len() > MOST_COPIED && out.len() < text.len() {
+    if out.len() == 0 || (text.len() > MOST_COPIED && out.len() < text.len()) {
         add_large(text, out);
     } else {
         out.add(text.as_slice());
