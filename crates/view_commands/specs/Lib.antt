@@ -1,0 +1,4 @@
+pub mod Names
+pub mod Forms
+pub mod Goals
+pub mod Lines

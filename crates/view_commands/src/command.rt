@@ -1,5 +1,9 @@
 //! What a line of a session says.
 
+ghost use Rattle.std.specs.Prelude.{◌≡◌};
+ghost use Rattle.std.specs.List.{list_all};
+ghost use Rattle.view_commands.specs.Lines.{is_digit, IsUnknown, IsRead};
+
 use crate::forms::{behind, with_words};
 use crate::names::name_of;
 use crate::others::told_of;
@@ -75,17 +79,16 @@ pub enum Command<'l> {
 }
 
 // Whether a word is of digits.
-fn is_number(word: &str) -> bool {
-    for byte in word.as_bytes() {
-        if *byte < b'0' || *byte > b'9' {
-            return false;
-        }
-    }
-    true
+fn is_number(word: &str) -> bool
+    ensures { result ≡ list_all is_digit word.now }
+{
+    word.as_bytes().iter().all(|byte| byte.is_ascii_digit())
 }
 
 // A word that is no command: where another program has it, what there is in its place.
-fn unknown<'l>(word: &str) -> Command<'l> {
+fn unknown<'l>(word: &str) -> Command<'l>
+    ensures { IsUnknown result }
+{
     match told_of(word) {
         Some(words) => Command::Wrong(words),
         None => Command::Unknown,
@@ -93,7 +96,9 @@ fn unknown<'l>(word: &str) -> Command<'l> {
 }
 
 /// What a line says that has these words.
-pub fn read<'l>(line: &'l str, words: &[&'l str]) -> Command<'l> {
+pub fn read<'l>(line: &'l str, words: &[&'l str]) -> Command<'l>
+    ensures { IsRead line.now words.now result }
+{
     match words {
         [] => Command::Moves(false),
         [first, rest @ ..] => {

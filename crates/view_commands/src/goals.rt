@@ -1,5 +1,8 @@
 //! Where a run is to stop, in the words of a line.
 
+ghost use Rattle.std.specs.Prelude.{◌≡◌, IfSome};
+ghost use Rattle.view_commands.specs.Goals.{path, compared, IsAtLine, IsWhole};
+
 /// Where a run is to stop, in the words of a line.
 #[derive(Clone, Copy, Debug, PartialEq, Eq)]
 pub enum Goal<'l> {
@@ -15,7 +18,9 @@ pub enum Goal<'l> {
 
 impl<'l> Goal<'l> {
     /// The path of the cell that it asks of, if it asks of one.
-    pub fn path(self) -> Option<&'l str> {
+    pub fn path(self) -> Option<&'l str>
+        ensures { result ≡ path self.entry }
+    {
         match self {
             Goal::Line(_) => None,
             Goal::Equal(path, _) | Goal::Other(path, _) | Goal::Written(path) => Some(path),
@@ -23,14 +28,20 @@ impl<'l> Goal<'l> {
     }
 }
 
-fn at_line<'l>(word: &str) -> Option<Goal<'l>> {
+// The line with this number.
+fn at_line<'l>(word: &str) -> Option<Goal<'l>>
+    ensures { IsAtLine word.now result }
+{
     match word.parse::<u32>() {
         Ok(line) => Some(Goal::Line(line)),
         Err(_) => None,
     }
 }
 
-fn compared<'l>(path: &'l str, sign: &str, value: &'l str) -> Option<Goal<'l>> {
+// A comparison of a cell with a value.
+fn compared<'l>(path: &'l str, sign: &str, value: &'l str) -> Option<Goal<'l>>
+    ensures { result ≡ compared path.entry sign.now value.entry }
+{
     if path.is_empty() || value.is_empty() {
         None
     } else if sign == "==" {
@@ -43,7 +54,9 @@ fn compared<'l>(path: &'l str, sign: &str, value: &'l str) -> Option<Goal<'l>> {
 }
 
 // What one word wants: a comparison without blanks, or a variable.
-fn joined<'l>(word: &'l str) -> Option<Goal<'l>> {
+fn joined<'l>(word: &'l str) -> Option<Goal<'l>>
+    ensures { IfSome result IsWhole }
+{
     if let Some((path, value)) = word.split_once("==") {
         return compared(path, "==", value);
     }
@@ -54,7 +67,9 @@ fn joined<'l>(word: &'l str) -> Option<Goal<'l>> {
 }
 
 // What two words want: a line, or a comparison with one blank.
-fn parted<'l>(first: &'l str, second: &'l str) -> Option<Goal<'l>> {
+fn parted<'l>(first: &'l str, second: &'l str) -> Option<Goal<'l>>
+    ensures { IfSome result IsWhole }
+{
     if first == "line" {
         return at_line(second);
     }
@@ -70,7 +85,9 @@ fn parted<'l>(first: &'l str, second: &'l str) -> Option<Goal<'l>> {
 }
 
 /// What these words want.
-pub fn wanted<'l>(words: &[&'l str]) -> Option<Goal<'l>> {
+pub fn wanted<'l>(words: &[&'l str]) -> Option<Goal<'l>>
+    ensures { IfSome result IsWhole }
+{
     match words {
         [word] => joined(word),
         [first, second] => parted(first, second),

@@ -1,5 +1,8 @@
 //! The names of commands.
 
+ghost use Rattle.std.specs.Prelude.{◌≡◌, ◌⊎◌, true, IfSome};
+ghost use Rattle.view_commands.specs.Names.{long_name, short_name, begins, IsNamed};
+
 use crate::others::told_of;
 
 /// A command, without what stands behind its name.
@@ -35,63 +38,119 @@ pub enum Name {
     Quit,
 }
 
-// Each name, and the short one that means it too.
-const NAMES: [(Name, &str, &str); 28] = [
-    (Name::Moves, "moves", "m"),
-    (Name::State, "state", "s"),
-    (Name::Why, "why", "w"),
-    (Name::Source, "source", "src"),
-    (Name::Back, "back", "b"),
-    (Name::Forward, "forward", "f"),
-    (Name::Goto, "goto", "g"),
-    (Name::Restart, "restart", "r"),
-    (Name::Run, "run", "run"),
-    (Name::Random, "random", "random"),
-    (Name::Process, "p", "p"),
-    (Name::Until, "until", "until"),
-    (Name::Last, "last", "last"),
-    (Name::Break, "break", "break"),
-    (Name::Breaks, "breaks", "breaks"),
-    (Name::Delete, "delete", "delete"),
-    (Name::Print, "print", "print"),
-    (Name::Display, "display", "display"),
-    (Name::Undisplay, "undisplay", "undisplay"),
-    (Name::Show, "show", "show"),
-    (Name::Steps, "steps", "steps"),
-    (Name::Branches, "branches", "branches"),
-    (Name::Branch, "branch", "branch"),
-    (Name::Chart, "chart", "chart"),
-    (Name::Record, "record", "record"),
-    (Name::Save, "save", "save"),
-    (Name::Help, "help", "h"),
-    (Name::Quit, "quit", "q"),
+// Each of them.
+const NAMES: [Name; 28] = [
+    Name::Moves,
+    Name::State,
+    Name::Why,
+    Name::Source,
+    Name::Back,
+    Name::Forward,
+    Name::Goto,
+    Name::Restart,
+    Name::Run,
+    Name::Random,
+    Name::Process,
+    Name::Until,
+    Name::Last,
+    Name::Break,
+    Name::Breaks,
+    Name::Delete,
+    Name::Print,
+    Name::Display,
+    Name::Undisplay,
+    Name::Show,
+    Name::Steps,
+    Name::Branches,
+    Name::Branch,
+    Name::Chart,
+    Name::Record,
+    Name::Save,
+    Name::Help,
+    Name::Quit,
 ];
 
+/// The whole name of a command.
+pub fn long_name(name: Name) -> &'static str
+    ensures { result.now ≡ long_name name }
+{
+    match name {
+        Name::Moves => "moves",
+        Name::State => "state",
+        Name::Why => "why",
+        Name::Source => "source",
+        Name::Back => "back",
+        Name::Forward => "forward",
+        Name::Goto => "goto",
+        Name::Restart => "restart",
+        Name::Run => "run",
+        Name::Random => "random",
+        Name::Process => "p",
+        Name::Until => "until",
+        Name::Last => "last",
+        Name::Break => "break",
+        Name::Breaks => "breaks",
+        Name::Delete => "delete",
+        Name::Print => "print",
+        Name::Display => "display",
+        Name::Undisplay => "undisplay",
+        Name::Show => "show",
+        Name::Steps => "steps",
+        Name::Branches => "branches",
+        Name::Branch => "branch",
+        Name::Chart => "chart",
+        Name::Record => "record",
+        Name::Save => "save",
+        Name::Help => "help",
+        Name::Quit => "quit",
+    }
+}
+
+// The short name of a command that has one, else the whole.
+fn short_name(name: Name) -> &'static str
+    ensures { result.now ≡ short_name name }
+{
+    match name {
+        Name::Moves => "m",
+        Name::State => "s",
+        Name::Why => "w",
+        Name::Source => "src",
+        Name::Back => "b",
+        Name::Forward => "f",
+        Name::Goto => "g",
+        Name::Restart => "r",
+        Name::Help => "h",
+        Name::Quit => "q",
+        _ => long_name(name),
+    }
+}
+
 // The command with this name, whole or short.
-fn named(word: &str) -> Option<Name> {
-    for (name, long, short) in NAMES {
-        if word == long || word == short {
+fn named(word: &str) -> Option<Name>
+    ensures { IfSome result (λ n. (word.now ≡ long_name n) ⊎ (word.now ≡ short_name n)) }
+{
+    for name in NAMES {
+        if word == long_name(name) || word == short_name(name) {
             return Some(name);
         }
     }
     None
 }
 
-/// The whole name of a command.
-pub fn long_name(name: Name) -> &'static str {
-    for (other, long, _) in NAMES {
-        if other == name {
-            return long;
-        }
-    }
-    ""
+// Whether a name begins so.
+fn begins(name: &str, word: &str) -> bool
+    ensures { result ≡ begins name.now word.now }
+{
+    name.as_bytes().starts_with(word.as_bytes())
 }
 
 // The one command whose name begins so.
-fn begun(word: &str) -> Option<Name> {
+fn begun(word: &str) -> Option<Name>
+    ensures { IfSome result (λ n. begins (long_name n) word.now ≡ true) }
+{
     let mut found = None;
-    for (name, long, _) in NAMES {
-        if long.starts_with(word) {
+    for name in NAMES {
+        if begins(long_name(name), word) {
             if found.is_some() {
                 return None;
             }
@@ -102,7 +161,9 @@ fn begun(word: &str) -> Option<Name> {
 }
 
 /// The command that a word names: whole, short, or by a beginning that no other has, and that is no word of another program.
-pub fn name_of(word: &str) -> Option<Name> {
+pub fn name_of(word: &str) -> Option<Name>
+    ensures { IfSome result (IsNamed word.now) }
+{
     match word {
         "?" => return Some(Name::Help),
         "undo" => return Some(Name::Back),
