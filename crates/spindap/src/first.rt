@@ -5,10 +5,10 @@ use crate::launch::Launch;
 use devices::SliceSource;
 use session::{Answer, Broken};
 use std::alloc::AllocError;
+use trail_text::marks::Marks;
 use view_run::trailed::{Followed, follow_trail};
 use view_session::replay::{Along, Replay, ReplayReading};
 use view_session::steps::choose;
-use view_trail::marks::Marks;
 use view_walk::walk::{Walk, Went};
 
 // Takes the next of the choices. Whether there was one; at a fault its number.

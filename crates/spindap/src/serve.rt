@@ -19,7 +19,7 @@ use pml_token::token::Token;
 use program_files::fault::NoFile;
 use program_files::refusal::{ExplainedText, explained, explained_beside};
 use serde_json::{Value, json};
-use view_trail::marks::Marks;
+use trail_text::marks::Marks;
 use view_walk::walk::Walk;
 
 // What is read of a client, and what is still to be sent to it.

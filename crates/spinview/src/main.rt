@@ -27,9 +27,9 @@ use std::process::ExitCode;
 use std::{env, fs, io};
 use stop::NoView;
 use telling::{tell_refusal, tell_stop};
+use trail_text::marks::Marks;
 use trails::{Led, follow};
 use view_session::answers::Setting;
-use view_trail::marks::Marks;
 use view_walk::walk::Walk;
 use view_words::{Wishes, read};
 

@@ -3,6 +3,8 @@ ghost use Rattle.view_walk.specs.Walks.{SameModel};
 
 use crate::stop::NoView;
 use std::alloc::{AllocError, Global};
+use trail_text::marks::Marks;
+use trail_text::said::{Cycle, Said, add_said, said_in};
 use view_run::beside::{notes_of, steps_before};
 use view_run::trailed::{Came, Followed, follow_trail};
 use view_session::notes::Notes;
@@ -10,8 +12,6 @@ use view_session::replay::Along;
 use view_session::told::is_state_of;
 use view_text::writer::Writer;
 use view_trail::difference::Difference;
-use view_trail::marks::Marks;
-use view_trail::said::{Cycle, Said, add_said, said_in};
 use view_walk::walk::Walk;
 use view_words::Wishes;
 

@@ -1,8 +1,9 @@
 //! What a trail says beside the steps of a walk that was led along it.
 
 use std::alloc::{AllocError, Global};
+use trail_text::beside::{Beside, next_beside};
+use trail_text::scan::Lines;
 use view_session::notes::Notes;
-use view_trail::beside::{Beside, UnreadLines};
 use view_walk::leg::Leg;
 
 /// How many steps were taken for lines before this one; `rows` has the line that each was taken for.
@@ -35,10 +36,10 @@ pub fn notes_of(
     cycle: Option<usize>,
 ) -> Result<Notes, AllocError> {
     let mut notes = Notes::of(alloc, legs, cycle)?;
-    let mut lines = UnreadLines::new(text);
+    let mut lines = Lines::new(text);
     let mut before = 0usize;
     for _ in 0..text.len() {
-        let Some((row, beside)) = lines.next() else {
+        let Some((row, beside)) = next_beside(&mut lines) else {
             break;
         };
         before = passed(rows, before, row);

@@ -4,8 +4,8 @@ ghost use Rattle.view_walk.specs.Walks.{SameModel};
 
 use std::alloc::{AllocError, Global};
 use std::collections::VecDeque;
+use trail_text::trail::Trail;
 use view_session::steps::choose;
-use view_trail::trail::Trail;
 use view_walk::leg::Leg;
 use view_walk::walk::Walk;
 

@@ -6,14 +6,14 @@ ghost use Rattle.view_walk.specs.Walks.{SameModel};
 use crate::search::{Fork, Search, go_to};
 use session::Answer;
 use std::alloc::{AllocError, Global};
+use trail_text::entry::{Entry, is_ended};
+use trail_text::marks::Marks;
+use trail_text::trail::Trail;
 use view_session::replay::Along;
 use view_session::seen::picture_of;
 use view_session::steps::choose;
 use view_text::writer::Writer;
 use view_trail::difference::{Difference, difference_at};
-use view_trail::entry::{Entry, is_ended};
-use view_trail::marks::Marks;
-use view_trail::trail::Trail;
 use view_trail::way::{EntryWay, Ways};
 use view_trail::which::ways_on;
 use view_walk::walk::{Walk, Went};
@@ -364,6 +364,6 @@ pub fn follow_trail(
         followed,
         is_cut: lead.search.is_cut(),
         rows,
-        valued: lead.trail.valued(),
+        valued: lead.trail.valued,
     })
 }

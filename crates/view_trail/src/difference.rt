@@ -2,12 +2,12 @@
 
 ghost use Rattle.view_text.specs.Written.{Stays};
 
-use crate::entry::Entry;
 use crate::fits::text_of;
-use crate::marks::Marks;
-use crate::scan::parted;
-use crate::trail::Trail;
 use promela_run::moves::Pick;
+use trail_text::entry::Entry;
+use trail_text::marks::Marks;
+use trail_text::scan::parted;
+use trail_text::trail::Trail;
 use view_cells::picture::Picture;
 use view_text::writer::Writer;
 use view_waits::offers::offer_line;
@@ -93,7 +93,7 @@ pub fn difference_at(
             return Some(Difference::InnerElse(row));
         }
     }
-    match trail.valued() {
+    match trail.valued {
         Some(row) => Some(Difference::Declaration(row)),
         None => None,
     }

@@ -4,13 +4,13 @@ ghost use Rattle.std.specs.Prelude.{◌≡◌, IfSome};
 ghost use Rattle.run_search.specs.Laws.{taker};
 ghost use Rattle.view_text.specs.Written.{Stays};
 
-use crate::entry::{Entry, Event};
 use crate::inner::misses;
-use crate::loose::is_like;
-use crate::quiet::{is_break, is_printm};
-use crate::spelled::add_spelled;
-use crate::trail::Trail;
 use promela_run::moves::{Move, Pick};
+use trail_text::entry::{Entry, Event};
+use trail_text::loose::is_like;
+use trail_text::quiet::{is_break, is_printm};
+use trail_text::spelled::add_spelled;
+use trail_text::trail::Trail;
 use view_cells::picture::Picture;
 use view_text::writer::Writer;
 use view_waits::offers::{add_offer, offer_line};

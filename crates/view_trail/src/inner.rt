@@ -2,11 +2,11 @@
 
 ghost use Rattle.view_text.specs.Written.{Stays};
 
-use crate::entry::{Entry, Event};
-use crate::spelled::add_spelled;
-use crate::trail::Trail;
 use promela_run::moves::Pick;
 use run_search::picked::picked;
+use trail_text::entry::{Entry, Event};
+use trail_text::spelled::add_spelled;
+use trail_text::trail::Trail;
 use view_cells::picture::Picture;
 use view_text::writer::Writer;
 

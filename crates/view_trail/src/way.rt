@@ -2,9 +2,9 @@
 
 ghost use Rattle.std.specs.Prelude.{◌≡◌, [], length, option_map, slice_get};
 
-use crate::trail::Trail;
 use std::alloc::{AllocError, Global};
 use std::marker::Model;
+use trail_text::trail::Trail;
 
 /// A way on: the number of a move, counted from 1, or none, where a line is passed over; and the trail behind it.
 #[derive(Clone, Copy, Debug)]

@@ -4,15 +4,15 @@ ghost use Rattle.std.specs.Prelude.{◌≡◌, true, IfSome};
 ghost use Rattle.run_search.specs.Laws.{taker};
 ghost use Rattle.view_text.specs.Written.{Stays};
 
-use crate::entry::{Entry, Event};
 use crate::fits::{behind, distance, spelling_of, text_of};
-use crate::marks::Marks;
-use crate::quiet::{is_of_machine, is_of_spin};
-use crate::select::{Stride, counts_to, stride_of};
-use crate::trail::Trail;
 use crate::way::{EntryWay, Ways};
 use promela_run::moves::Move;
 use std::alloc::AllocError;
+use trail_text::entry::{Entry, Event};
+use trail_text::marks::Marks;
+use trail_text::quiet::{is_of_machine, is_of_spin};
+use trail_text::select::{Stride, counts_to, stride_of};
+use trail_text::trail::Trail;
 use view_cells::picture::Picture;
 use view_text::writer::Writer;
 
@@ -110,7 +110,7 @@ fn add_selecting<'t>(
         let Some(spelled) = spelled_of(picture, &moves[at], entry.process, out) else {
             continue;
         };
-        let counts = counts_behind(spelled.bytes(), wanted.bytes(), trail.counts());
+        let counts = counts_behind(spelled.bytes(), wanted.bytes(), trail.counts);
         add_counting(trail, at + 1, counts, ways)?;
     }
     Ok(())

@@ -1,8 +1,8 @@
 //! Where a model declares which names, and where a label stands before a `for` or a `select`: by its tokens, once its inlines are replaced.
 
-ghost use Rattle.std.specs.Prelude.{◌≡◌};
+ghost use Rattle.std.specs.Prelude.{◌≡◌, ◌<◌, ◌+◌, ◌^◌};
 ghost use Rattle.std.specs.List.{slice_get};
-ghost use Rattle.view_trail.specs.Declarations.{types, kind_of, line_of, labels};
+ghost use Rattle.trail_text.specs.Declarations.{types, kind_of, kind_in, line_of, labels, begins};
 
 use crate::declared::{Declaring, is_closing, is_opening};
 use pml_token::token::{Kind, Token};
@@ -61,7 +61,9 @@ fn line_at(tokens: &[Token<'_>], at: usize) -> usize
 }
 
 // Whether a list of names begins behind this token: behind a type, and behind a typedef's name.
-fn begins(tokens: &[Token<'_>], at: usize) -> bool {
+fn begins(tokens: &[Token<'_>], at: usize) -> bool
+    ensures { at + 1 < 2 ^ 64 → result ≡ begins (kind_in tokens.now at) (kind_in tokens.now (at + 1)) }
+{
     let kind = kind_at(tokens, at);
     kind_at(tokens, at.saturating_add(1)) == Kind::Name && (is_type(kind) || kind == Kind::Name)
 }
@@ -128,7 +130,9 @@ fn is_label(first: Kind, second: Kind, third: Kind) -> bool
 }
 
 // Whether a label stands here, and a `for` or a `select` behind it.
-fn is_labelled(tokens: &[Token<'_>], at: usize) -> bool {
+fn is_labelled(tokens: &[Token<'_>], at: usize) -> bool
+    ensures { at + 2 < 2 ^ 64 → result ≡ labels (kind_in tokens.now at) (kind_in tokens.now (at + 1)) (kind_in tokens.now (at + 2)) }
+{
     let second = kind_at(tokens, at.saturating_add(1));
     let third = kind_at(tokens, at.saturating_add(2));
     is_label(kind_at(tokens, at), second, third)
@@ -185,21 +189,13 @@ impl Marks {
 
     /// Whether Spin may show a statement of a line for a declaration there; it is given in one spelling.
     pub fn is_declared(&self, statement: &[u8], line: usize) -> bool {
-        for declared in self.declared.as_slice() {
-            if declared.is_shown_as(statement, line) {
-                return true;
-            }
-        }
-        false
+        self.declared
+            .iter()
+            .any(|declared| declared.is_shown_as(statement, line))
     }
 
     /// Whether a label before a `for` or a `select`, or that, stands on a line.
     pub fn is_labelled(&self, line: usize) -> bool {
-        for labelled in self.labelled.as_slice() {
-            if *labelled == line {
-                return true;
-            }
-        }
-        false
+        self.labelled.iter().any(|labelled| *labelled == line)
     }
 }

@@ -1,5 +1,5 @@
 -- Which tokens begin declarations, which open and close brackets, and which end the declaration of a name.
-use Rattle.std.specs.Prelude.{ℕ, List, Bool, true, false, Option, Some, None}
+use Rattle.std.specs.Prelude.{ℕ, ◌&&◌, ◌||◌, List, Bool, true, false, Option, Some, None}
 use Rattle.std.specs.List.{slice_get}
 use Rattle.pml_token.specs.Word.{Word}
 use Rattle.pml_token.specs.declared.token.Kind.{Kind}
@@ -54,3 +54,16 @@ abbrev pub labels : Kind → Kind → Kind → Bool
 labels kind.Name kind.Colon kind.For = true
 labels kind.Name kind.Colon kind.Select = true
 labels _ _ _ = false
+
+-- the kind of the token at a place
+abbrev pub kind_in : List Word → ℕ → Kind
+kind_in tokens at = kind_of (slice_get tokens at)
+
+-- a name
+abbrev pub is_name : Kind → Bool
+is_name kind.Name = true
+is_name _ = false
+
+-- a list of names begins behind the first of these: behind a type, and behind a typedef's name
+abbrev pub begins : Kind → Kind → Bool
+begins first second = is_name second && (types first || is_name first)

@@ -1,5 +1,5 @@
 use Rattle.view_text.specs.Written.{Stays}
-use Rattle.view_trail.proofs.declared.add_value.Given as goal
+use Rattle.trail_text.proofs.declared.add_value.Given as goal
 
 abbrev pub invariant-loop-at : goal.invariant-loop-at
 invariant-loop-at l = Stays l.fn.out l.out

@@ -1,7 +1,7 @@
 //! What Spin shows of a declaration that is a statement there: `t = x + 1`, and `t = 0` where no value is written.
 
 ghost use Rattle.std.specs.Prelude.{◌≡◌, ◌≤◌, length, IfSome};
-ghost use Rattle.view_trail.specs.Declarations.{opens, closes, ends};
+ghost use Rattle.trail_text.specs.Declarations.{opens, closes, ends};
 ghost use Rattle.view_text.specs.Written.{Stays};
 
 use crate::spelled::add_spelled;

@@ -1,10 +1,14 @@
 //! The text of a statement, as Spin and as the machine write it, in one spelling.
 
+ghost use Rattle.std.specs.Prelude.{◌≡◌, ◌≤◌, ◌++◌, ◌∷◌, [], length, IfSome};
+ghost use Rattle.trail_text.specs.Parts.{is_of_word, is_left_out};
 ghost use Rattle.view_text.specs.Written.{Stays};
 
 use view_text::writer::Writer;
 
-fn is_of_word(byte: u8) -> bool {
+fn is_of_word(byte: u8) -> bool
+    ensures { result ≡ is_of_word byte }
+{
     byte == b'_'
         || (byte >= b'a' && byte <= b'z')
         || (byte >= b'A' && byte <= b'Z')
@@ -12,7 +16,9 @@ fn is_of_word(byte: u8) -> bool {
 }
 
 // Blanks, parentheses, commas, quotation marks and backslashes are none of the spelling.
-fn is_left_out(byte: u8) -> bool {
+fn is_left_out(byte: u8) -> bool
+    ensures { result ≡ is_left_out byte }
+{
     match byte {
         b' ' | b'\t' | b'\r' | b'(' | b')' | b',' | b'"' | b'\'' | b'\\' => true,
         _ => false,
@@ -20,7 +26,9 @@ fn is_left_out(byte: u8) -> bool {
 }
 
 /// How many bytes of a word or a number stand first.
-pub fn word_size(text: &[u8]) -> usize {
+pub fn word_size(text: &[u8]) -> usize
+    ensures { result ≤ length text.now }
+{
     for at in 0..text.len() {
         if !is_of_word(text[at]) {
             return at;
@@ -61,7 +69,9 @@ fn add_signs(text: &[u8], out: &mut Writer)
 }
 
 // A text with this sign twice at its end, without it.
-fn counted(text: &[u8], sign: u8) -> Option<&[u8]> {
+fn counted(text: &[u8], sign: u8) -> Option<&[u8]>
+    ensures { IfSome result (λ before. text.now ≡ before.now ++ (sign ∷ sign ∷ [])) }
+{
     match text {
         [before @ .., first, second] if *first == sign && *second == sign => Some(before),
         _ => None,

@@ -1,31 +1,32 @@
 //! A trail, as far as it was followed.
 
-use crate::entry::{Entries, Entry, Event};
+use crate::entry::{Entry, Event, next_entry};
 use crate::quiet::is_of_spin;
+use crate::scan::Lines;
 
 /// A trail, as far as it was followed.
 #[derive(Clone, Copy, Debug)]
 pub struct Trail<'t> {
-    entries: Entries<'t>,
+    lines: Lines<'t>,
     /// How many steps were taken since its last line that it does not show.
     quiet: usize,
     /// The process and the number of the last line that was followed.
     last: Option<(usize, usize)>,
     /// The same, where the other lines with them belong to the same step: to a d_step, or to one that came to a fault.
     held: Option<(usize, usize)>,
-    /// How often a `select` is still to count up.
-    counts: usize,
+    /// How often a `select` is still to count up for the next line.
+    pub counts: usize,
     /// The process and the line of an `else` that was passed over, since which that process took no line.
     skipped: Option<(usize, usize)>,
     /// The first line of a declaration that was passed over which gives another number than 0.
-    valued: Option<usize>,
+    pub valued: Option<usize>,
 }
 
 impl<'t> Trail<'t> {
     /// From its beginning.
     pub fn new(text: &'t [u8]) -> Trail<'t> {
         Trail {
-            entries: Entries::new(text),
+            lines: Lines::new(text),
             quiet: 0,
             last: None,
             held: None,
@@ -44,7 +45,7 @@ impl<'t> Trail<'t> {
     pub fn next(&self) -> Option<Entry<'t>> {
         let mut ahead = *self;
         for _ in 0..u64::MAX {
-            let Some(entry) = ahead.entries.next() else {
+            let Some(entry) = next_entry(&mut ahead.lines) else {
                 return None;
             };
             if !self.is_held(&entry) {
@@ -67,11 +68,6 @@ impl<'t> Trail<'t> {
         }
     }
 
-    /// The first line of a declaration that was passed over which gives another number than 0.
-    pub fn valued(&self) -> Option<usize> {
-        self.valued
-    }
-
     /// The line of an `else` of this process that was passed over, where the process took no line since then.
     pub fn skipped_of(&self, process: usize) -> Option<usize> {
         match self.skipped {
@@ -83,7 +79,7 @@ impl<'t> Trail<'t> {
     /// Goes behind the next line.
     pub fn pass(&mut self) -> Option<Entry<'t>> {
         for _ in 0..u64::MAX {
-            let Some(entry) = self.entries.next() else {
+            let Some(entry) = next_entry(&mut self.lines) else {
                 return None;
             };
             if !self.is_held(&entry) {
@@ -136,11 +132,6 @@ impl<'t> Trail<'t> {
     /// The lines with the number of the last one belong to the same step.
     pub fn hold(&mut self) {
         self.held = self.last;
-    }
-
-    /// How often a `select` is still to count up for the next line.
-    pub fn counts(&self) -> usize {
-        self.counts
     }
 
     /// It is to count up so often. Where that is not at all, the trail goes on behind the line.

@@ -1,22 +1,26 @@
 //! Statements that are the same but for names of an mtype: Spin gives a number of one subtype the name of another, or writes the number.
 
+ghost use Rattle.std.specs.Prelude.{◌≡◌, ◌++◌};
+ghost use Rattle.std.specs.List.{list_any};
+ghost use Rattle.std.specs.Str.{bytes_eq};
+ghost use Rattle.trail_text.specs.Parts.{is_number};
+
 use crate::spelled::word_size;
 use pml_token::token::Token;
 
-fn is_number(word: &[u8]) -> bool {
+fn is_number(word: &[u8]) -> bool
+    ensures { result ≡ is_number word.now }
+{
     match word {
         [first, ..] => *first >= b'0' && *first <= b'9',
         [] => false,
     }
 }
 
-fn is_mtype(names: &[Token<'_>], word: &[u8]) -> bool {
-    for name in names {
-        if name.text() == word {
-            return true;
-        }
-    }
-    false
+fn is_mtype(names: &[Token<'_>], word: &[u8]) -> bool
+    ensures { result ≡ list_any (λ name. bytes_eq name.text word.now) names.now }
+{
+    names.iter().any(|name| name.text() == word)
 }
 
 // Whether one may stand for the other: a name for a name, or for a number.
@@ -27,7 +31,9 @@ fn stands_for(names: &[Token<'_>], one: &[u8], other: &[u8]) -> bool {
 }
 
 // The word or sign that stands first, and what stands behind it.
-fn cut(text: &[u8]) -> (&[u8], &[u8]) {
+fn cut(text: &[u8]) -> (&[u8], &[u8])
+    ensures { text.now ≡ result.0.now ++ result.1.now }
+{
     let size = word_size(text).max(1).min(text.len());
     (&text[..size], &text[size..])
 }

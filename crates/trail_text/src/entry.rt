@@ -1,7 +1,10 @@
 //! The lines of a trail.
 
+ghost use Rattle.std.specs.Prelude.{◌≡◌, IfSome};
+ghost use Rattle.trail_text.specs.Shown.{is_else};
+
 use crate::scan::{
-    before_blanks, before_last, behind_blanks, behind_word, number_first, number_last, parted,
+    Lines, before_blanks, before_last, behind_blanks, number_first, number_last, parted,
 };
 
 /// What a line of a trail tells.
@@ -14,7 +17,9 @@ pub enum Event<'t> {
 
 impl<'t> Event<'t> {
     /// Whether it is an `else`.
-    pub fn is_else(&self) -> bool {
+    pub fn is_else(&self) -> bool
+        ensures { result ≡ is_else self.now }
+    {
         match self {
             Event::Statement(_, text) => *text == b"else".as_slice(),
             Event::Death => false,
@@ -46,7 +51,7 @@ pub struct Entry<'t> {
 // The line of a statement: `model.pml:5`, or of older versions `line 5 "model.pml"`.
 fn line_in(place: &[u8]) -> Option<usize> {
     let place = before_blanks(behind_blanks(place));
-    if let Some(rest) = behind_word(place, b"line ") {
+    if let Some(rest) = place.strip_prefix(b"line ") {
         let (line, _) = number_first(behind_blanks(rest))?;
         return Some(line);
     }
@@ -60,7 +65,7 @@ fn event_of(text: &[u8]) -> Option<Event<'_>> {
         Some((_, behind)) => behind,
         None => text,
     };
-    if behind_word(behind_name, b"terminates").is_some() {
+    if behind_name.starts_with(b"terminates") {
         return Some(Event::Death);
     }
     let (place, behind_place) = parted(behind_name, b" (state ")?;
@@ -80,7 +85,9 @@ fn step_in(before: &[u8]) -> Option<usize> {
 }
 
 // What a line of the file tells, where it tells of a process.
-fn entry_of(row: usize, text: &[u8]) -> Option<Entry<'_>> {
+fn entry_of(row: usize, text: &[u8]) -> Option<Entry<'_>>
+    ensures { IfSome result (λ e. e.row ≡ row) }
+{
     let (before, behind) = parted(text, b"proc ")?;
     let step = step_in(before)?;
     let (process, rest) = number_first(behind_blanks(behind))?;
@@ -101,50 +108,17 @@ pub fn is_ended(text: &[u8]) -> bool {
     parted(text, LAST).is_some()
 }
 
-/// The lines of a file that are still to be read.
-#[derive(Clone, Copy, Debug)]
-pub struct Entries<'t> {
-    rest: &'t [u8],
-    row: usize,
-}
-
-impl<'t> Entries<'t> {
-    /// Those of a whole file.
-    pub fn new(text: &'t [u8]) -> Entries<'t> {
-        Entries { rest: text, row: 0 }
-    }
-
-    // The next line.
-    fn line(&mut self) -> &'t [u8] {
-        self.row = self.row.saturating_add(1);
-        let rest = self.rest;
-        match parted(rest, b"\n") {
-            Some((line, behind)) => {
-                self.rest = behind;
-                line
-            }
-            None => {
-                self.rest = &rest[..0];
-                rest
-            }
+/// The next of these lines that tells of a process.
+pub fn next_entry<'t>(lines: &mut Lines<'t>) -> Option<Entry<'t>> {
+    for _ in 0..lines.rest.len() {
+        let line = lines.next()?;
+        if line.starts_with(LAST) {
+            lines.rest = &line[..0];
+            return None;
+        }
+        if let Some(entry) = entry_of(lines.row, line) {
+            return Some(entry);
         }
     }
-
-    /// The next line that tells of a process.
-    pub fn next(&mut self) -> Option<Entry<'t>> {
-        for _ in 0..self.rest.len() {
-            if self.rest.is_empty() {
-                return None;
-            }
-            let line = self.line();
-            if behind_word(line, LAST).is_some() {
-                self.rest = &line[..0];
-                return None;
-            }
-            if let Some(entry) = entry_of(self.row, line) {
-                return Some(entry);
-            }
-        }
-        None
-    }
+    None
 }

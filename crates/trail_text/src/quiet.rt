@@ -1,6 +1,7 @@
 //! Statements that only one of the two has: Spin leaves out most jumps, and shows what the machine has not.
 
-use crate::scan::behind_word;
+ghost use Rattle.std.specs.Prelude.{◌≡◌, ◌&&◌, codes};
+ghost use Rattle.trail_text.specs.Shown.{begins, is_of_machine};
 
 // What Spin shows of jumps, of the ends of selections and of sequences.
 const JUMPS: [&[u8]; 10] = [
@@ -23,25 +24,29 @@ pub fn is_of_spin(text: &[u8]) -> bool {
             return true;
         }
     }
-    text.is_empty()
-        || behind_word(text, b"goto ").is_some()
-        || behind_word(text, b"D_STEP").is_some()
+    text.is_empty() || text.starts_with(b"goto ") || text.starts_with(b"D_STEP")
 }
 
 /// Whether the machine may take a step with this text that Spin does not show.
-pub fn is_of_machine(text: &[u8]) -> bool {
+pub fn is_of_machine(text: &[u8]) -> bool
+    ensures { result ≡ is_of_machine text.now }
+{
     text == b"else".as_slice()
         || text == b"break".as_slice()
         || text == b"skip".as_slice()
-        || behind_word(text, b"goto ").is_some()
+        || text.starts_with(b"goto ")
 }
 
 /// Whether this is what Spin shows of a `break`: `goto :b0`.
-pub fn is_break(text: &[u8]) -> bool {
-    behind_word(text, b"goto :b").is_some()
+pub fn is_break(text: &[u8]) -> bool
+    ensures { result ≡ begins text.now (codes "goto :b") }
+{
+    text.starts_with(b"goto :b")
 }
 
 /// Whether two spelled statements are both a `printm`, which Spin shows by numbers.
-pub fn is_printm(spelled: &[u8], wanted: &[u8]) -> bool {
-    behind_word(spelled, b"printm").is_some() && behind_word(wanted, b"printm").is_some()
+pub fn is_printm(spelled: &[u8], wanted: &[u8]) -> bool
+    ensures { result ≡ (begins spelled.now (codes "printm") && begins wanted.now (codes "printm")) }
+{
+    spelled.starts_with(b"printm") && wanted.starts_with(b"printm")
 }

@@ -1,10 +1,17 @@
 //! A `select` over few numbers, which Spin takes in one step, `x = 2`, and which is a loop here: `x = 0`, and then `x < 3` and `x ++` twice.
 
-use crate::scan::{behind_word, number_first, parted};
+ghost use Rattle.std.specs.Prelude.{◌<◌, List, ℕ, IfSome, codes};
+ghost use Rattle.trail_text.specs.Parts.{IsParted};
+
+use crate::scan::{number_first, parted};
 
 /// The variable and the number of a spelled statement that gives it one: `x=2`.
-pub fn assigned(spelled: &[u8]) -> Option<(&[u8], usize)> {
-    let (name, rest) = parted(spelled, b"=")?;
+pub fn assigned(spelled: &[u8]) -> Option<(&[u8], usize)>
+    ensures { IfSome result (λ p. (digits : List ℕ) × IsParted spelled.now (codes "=") p.0.now digits) }
+{
+    let Some((name, rest)) = parted(spelled, b"=") else {
+        return None;
+    };
     let (number, behind) = number_first(rest)?;
     if behind.is_empty() {
         Some((name, number))
@@ -14,7 +21,9 @@ pub fn assigned(spelled: &[u8]) -> Option<(&[u8], usize)> {
 }
 
 /// How often a `select` that begins with one of two spelled statements counts up to come to the other.
-pub fn counts_to(first: &[u8], wanted: &[u8]) -> Option<usize> {
+pub fn counts_to(first: &[u8], wanted: &[u8]) -> Option<usize>
+    ensures { IfSome result (λ n. 0 < n) }
+{
     let (name, from) = assigned(first)?;
     let (other, to) = assigned(wanted)?;
     if name == other && from < to {
@@ -35,11 +44,11 @@ pub enum Stride {
 /// What a spelled statement does in a `select` that is to come to another, if it is a part of it.
 pub fn stride_of(spelled: &[u8], wanted: &[u8]) -> Option<Stride> {
     let (name, _) = assigned(wanted)?;
-    let behind = behind_word(spelled, name)?;
-    if behind_word(behind, b"<").is_some() {
+    let behind = spelled.strip_prefix(name)?;
+    if behind.starts_with(b"<") {
         return Some(Stride::Asks);
     }
-    let again = behind_word(behind_word(behind, b"=")?, name)?;
+    let again = behind.strip_prefix(b"=")?.strip_prefix(name)?;
     if again == b"+1".as_slice() {
         Some(Stride::Counts)
     } else {

@@ -2,7 +2,7 @@
 
 ghost use Rattle.view_text.specs.Written.{Stays};
 
-use crate::scan::{before_blanks, behind_blanks, behind_word, parted};
+use crate::scan::{Lines, before_blanks, behind_blanks, parted};
 use view_text::writer::Writer;
 
 /// What is said.
@@ -26,15 +26,10 @@ pub struct FailedAssertion<'t> {
     pub is_step: bool,
 }
 
-// `  <<<<<START OF CYCLE>>>>>`
-fn is_cycle(line: &[u8]) -> bool {
-    behind_word(behind_blanks(line), b"<<<<<START OF CYCLE").is_some()
-}
-
 // The place in `spin: m.pml:9, Error: assertion violated`.
 fn failed_at(line: &[u8]) -> Option<&[u8]> {
     let (place, _) = parted(
-        behind_word(line, b"spin: ")?,
+        line.strip_prefix(b"spin: ")?,
         b", Error: assertion violated",
     )?;
     Some(place)
@@ -42,11 +37,11 @@ fn failed_at(line: &[u8]) -> Option<&[u8]> {
 
 // The text in `spin: text of failed assertion: assert(0)`.
 fn failed_text(line: &[u8]) -> Option<&[u8]> {
-    Some(before_blanks(behind_word(line, b"spin: text of failed assertion: ")?))
+    Some(before_blanks(line.strip_prefix(b"spin: text of failed assertion: ")?))
 }
 
 fn is_of_claim(line: &[u8]) -> bool {
-    behind_word(line, b"Never claim moves to line ").is_some() && parted(line, b"[assert").is_some()
+    line.starts_with(b"Never claim moves to line ") && parted(line, b"[assert").is_some()
 }
 
 // The name in ` 13: proc  - (p:1) ..`, which is said of a claim behind the trail's end, and whether it stands where it may end.
@@ -59,7 +54,7 @@ fn claim_in(line: &[u8]) -> Option<(&[u8], bool)> {
 impl<'t> Said<'t> {
     // What a line adds.
     fn add(&mut self, row: usize, line: &'t [u8]) {
-        if is_cycle(line) {
+        if behind_blanks(line).starts_with(b"<<<<<START OF CYCLE") {
             self.cycle = Some(row);
         } else if let Some(place) = failed_at(line) {
             self.failed = Some(FailedAssertion {
@@ -107,14 +102,12 @@ pub fn said_in(text: &[u8]) -> Said<'_> {
         failed: None,
         claim: None,
     };
-    let mut rest = text;
-    for row in 0..text.len() {
-        let Some((line, behind)) = parted(rest, b"\n") else {
-            said.add(row.saturating_add(1), rest);
-            break;
-        };
-        said.add(row.saturating_add(1), line);
-        rest = behind;
+    let mut lines = Lines::new(text);
+    for _ in 0..text.len() {
+        match lines.next() {
+            Some(line) => said.add(lines.row, line),
+            None => break,
+        }
     }
     said
 }
