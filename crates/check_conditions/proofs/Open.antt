@@ -9,9 +9,9 @@ use Rattle.promela_model.specs.declared.mark.Mark.{Mark}
 use Rattle.promela_model.specs.declared.round.Round.{Round}
 use Rattle.check_names.specs.declared.places.Places.{Places}
 use Rattle.check_names.specs.Places.{stands}
-use Rattle.promela_model.specs.Decided.{Open, entered, opened, round_of, round, labelled}
+use Rattle.promela_model.specs.Decided.{Open, entered, opened, round, labelled}
 use Rattle.check_conditions.specs.Step.{step_there, labels_in}
-use Rattle.check_conditions.specs.Open.{in_loop, in_step, passed, rounds, top, AreSteps}
+use Rattle.check_conditions.specs.Open.{round_of, in_loop, in_step, passed, rounds, top, AreSteps}
 use Rattle.check_conditions.proofs.Looking.{back_more}
 
 behind : (ms : List Mark) (i : ℕ) → i < length ms → length (reverse (take i ms)) ≡ i

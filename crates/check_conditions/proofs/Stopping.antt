@@ -8,7 +8,8 @@ use Rattle.promela_model.specs.declared.condition.Condition.{Condition}
 use Rattle.promela_model.specs.declared.condition.Condition.TheVariants as condition
 use Rattle.check_conditions.specs.declared.find.Found.{Found}
 use Rattle.promela_model.specs.Conditions.{Around, judged}
-use Rattle.promela_model.specs.Decided.{broken, around}
+use Rattle.promela_model.specs.Decided.{broken}
+use Rattle.check_conditions.specs.Labels.{around}
 use Rattle.check_conditions.specs.First.{broken_at, found_of, IsFirstBroken}
 
 -- what was found at a mark

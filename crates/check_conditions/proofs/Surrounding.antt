@@ -8,8 +8,8 @@ use Rattle.check_names.specs.Env.{env, told}
 use Rattle.promela_model.specs.Names.{Naming, Before, before}
 use Rattle.check_names.proofs.Firsts.{told-before}
 use Rattle.promela_model.specs.Conditions.{Around, Labels}
-use Rattle.promela_model.specs.Decided.{has_label, around, is_label}
-use Rattle.check_conditions.specs.Labels.{labels_of, told_around}
+use Rattle.promela_model.specs.Decided.{has_label, is_label}
+use Rattle.check_conditions.specs.Labels.{labels_of, told_around, around}
 
 -- ---- labels
 

@@ -4,7 +4,8 @@ use Rattle.promela_model.specs.declared.mark.Mark.{Mark}
 use Rattle.check_conditions.specs.declared.find.Found.{Found}
 use Rattle.promela_model.specs.declared.condition.Condition.{Condition}
 use Rattle.promela_model.specs.declared.condition.Condition.TheVariants as condition
-use Rattle.promela_model.specs.Decided.{Somewhere, Nowhere, broken, AppliesToMarks, FitsMarks}
+use Rattle.promela_model.specs.Decided.{Somewhere, broken, AppliesToMarks}
+use Rattle.check_conditions.specs.Fitted.{Nowhere, FitsMarks}
 
 abbrev pub Decides : Bool → Condition → List Mark → Type 0
 Decides true r ms = AppliesToMarks r ms

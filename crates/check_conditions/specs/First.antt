@@ -4,7 +4,8 @@ use Rattle.promela_model.specs.declared.mark.Mark.{Mark}
 use Rattle.promela_model.specs.declared.condition.Condition.{Condition}
 use Rattle.promela_model.specs.declared.condition.Condition.TheVariants as condition
 use Rattle.check_conditions.specs.declared.find.Found.{Found}
-use Rattle.promela_model.specs.Decided.{broken, crosses_step, Nowhere}
+use Rattle.promela_model.specs.Decided.{broken, crosses_step}
+use Rattle.check_conditions.specs.Fitted.{Nowhere}
 use Rattle.check_conditions.specs.Step.{breaks_loose}
 
 -- whether a mark breaks a condition, among these marks and behind those that stand first; the conditions on the first state are broken at no mark

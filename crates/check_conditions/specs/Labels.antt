@@ -6,6 +6,7 @@ use Rattle.check_names.specs.Places.{IsKept, stands}
 use Rattle.check_names.specs.Entry.{Entry, found}
 use Rattle.check_names.specs.Env.{told}
 use Rattle.promela_model.specs.Conditions.{Around, Labels}
+use Rattle.promela_model.specs.Names.{before}
 use Rattle.promela_model.specs.Decided.{has_label}
 
 abbrev pub labels_of : Places ℕ → Labels
@@ -18,3 +19,7 @@ pub record AreLabels (ms : List Mark) (ps : Places ℕ) : Type 0 where
 
 abbrev pub told_around : List Entry → Places ℕ → List Entry → Places ℕ → Around
 told_around all every names labels = record { all = found all; every_label = labels_of every; before = told names; labels = labels_of labels }
+
+-- what stands before a mark and in the whole text, by which its condition is asked
+abbrev pub around : List Mark → List Mark → Around
+around ms first = record { all = (before ms).names; every_label = has_label ms; before = before first; labels = has_label first }

@@ -6,7 +6,8 @@ use Rattle.promela_model.specs.declared.mark.What.TheVariants as what
 use Rattle.promela_model.specs.declared.mark.Mark.{Mark}
 use Rattle.promela_model.specs.declared.condition.Condition.{Condition}
 use Rattle.promela_model.specs.declared.condition.Condition.TheVariants as condition
-use Rattle.promela_model.specs.Decided.{round, AppliesToMarks, FitsMarks, crosses_step}
+use Rattle.promela_model.specs.Decided.{round, AppliesToMarks, crosses_step}
+use Rattle.check_conditions.specs.Fitted.{FitsMarks}
 
 -- no condition both applies and fits
 abbrev pub Exclude : Type 0

@@ -1,4 +1,5 @@
 pub mod Open
+pub mod Fitted
 pub mod Finds
 pub mod First
 pub mod Labels

@@ -7,7 +7,11 @@ use Rattle.promela_model.specs.declared.mark.Mark.{Mark}
 use Rattle.check_names.specs.declared.places.Places.{Places}
 use Rattle.check_names.specs.Places.{IsKept, stands}
 use Rattle.promela_model.specs.declared.round.Round.{Round}
-use Rattle.promela_model.specs.Decided.{labelled}
+use Rattle.promela_model.specs.Decided.{Open, has_do, is_cut, innermost_step, labelled}
+
+-- what a place stands in, by what is open there
+abbrev pub round_of : List Open → Round
+round_of xs = record { looped = has_do xs; cut = is_cut xs; step = innermost_step xs }
 
 -- nothing, a do, the d_step whose mark has k marks before it
 abbrev pub outside : Round

@@ -4,6 +4,9 @@ use Rattle.std.specs.Option.{option_or, option_eq, option_map_or}
 use Rattle.promela_model.specs.declared.mark.What.{What}
 use Rattle.promela_model.specs.declared.mark.Mark.{Mark}
 use Rattle.promela_model.specs.declared.round.Round.{Round}
+use Rattle.promela_model.specs.declared.mark.Use.{Use}
+use Rattle.promela_model.specs.declared.mark.Use.TheVariants as use_of
+use Rattle.promela_model.specs.Conditions.{same_use}
 use Rattle.promela_model.specs.Decided.{is_label, labelled, round, loose, starts_processes, started}
 
 -- the innermost d_step round the label n of o, where this mark is it
@@ -55,3 +58,15 @@ AddsStep old new owner w step = (o : ℕ) (n : List ℕ) → new o n ≡ option_
 -- a count n of the owner k, where those of the owner o are so many more, up to 256
 abbrev pub raised : ℕ → ℕ → ℕ → ℕ → ℕ
 raised o more k n = if nat_eq o k then min (n + more) 256 else n
+
+-- it is given a value, by an assignment or by a receive
+abbrev pub is_stored : Use → Bool
+is_stored u = same_use u use_of.Store || same_use u use_of.Receive
+
+-- an mtype name is read, compared with a field, or an initialiser of a typedef's field
+abbrev pub is_compared : Use → Bool
+is_compared u = same_use u use_of.Read || (same_use u use_of.Receive || same_use u use_of.Preset)
+
+-- it stands in the initialiser of a field
+abbrev pub is_preset : Use → Bool
+is_preset u = same_use u use_of.Preset

@@ -3,7 +3,8 @@
 ghost use Rattle.std.specs.Prelude.{◌≡◌, not};
 ghost use mathlib.Core.Bool.{beq};
 ghost use Rattle.check_names.specs.Entry.{found as names_of};
-ghost use Rattle.promela_model.specs.Conditions.{is_plain, is_compared, is_stored, is_preset, is_unknown, misused, misfits, wrong_thing, wrong_special, wrong_in, wrong};
+ghost use Rattle.promela_model.specs.Conditions.{is_plain, is_unknown, misused, misfits, wrong_thing, wrong_special, wrong_in, wrong};
+ghost use Rattle.check_conditions.specs.Step.{is_compared, is_stored, is_preset};
 
 use check_names::meaning::{field, is_any, is_pid, is_special, meaning};
 use check_names::table::Table;

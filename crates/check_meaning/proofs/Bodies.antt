@@ -20,7 +20,8 @@ use Rattle.check_resolve.specs.Declarations.{Known}
 use Rattle.check_resolve.specs.Statements.{Threaded, each, stmts, joined, basic_layer, item_layer, seq_layer, numbered_basic, numbered_item, numbered_seq, proctype_of}
 use Rattle.promela_model.specs.Stands.{Globals}
 use Rattle.promela_model.specs.StandsModel as stands
-use Rattle.promela_model.specs.StandsModel.{stmt_of, steps_of, StandsBasic, StandsItems, StandsSeq, StandsOptions}
+use Rattle.check_meaning.proofs.Words.{stmt_of, steps_of}
+use Rattle.promela_model.specs.StandsModel.{StandsBasic, StandsItems, StandsSeq, StandsOptions}
 use Rattle.promela_grammar.specs.Actions.{item_of, seq_of}
 use Rattle.check_meaning.proofs.Declaring.{Runs, Ready, sees-of, variables-ready, variables-stand, only_variables}
 use Rattle.check_meaning.proofs.Acting.{action-stands, only_action}

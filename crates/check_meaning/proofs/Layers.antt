@@ -13,7 +13,7 @@ use Rattle.pml_tree.specs.declared.tree.Expr.{Expr as TreeExpr, Expr-F, map-Expr
 use Rattle.pml_tree.specs.declared.tree.Expr.TheVariants as e
 use Rattle.pml_tree.specs.declared.tree.Reference.{Reference, fold-roll-Reference}
 use Rattle.pml_tree.specs.declared.tree.Step.{Step, fold-roll-Step}
-use Rattle.promela_model.specs.Names.{number_from_digits as number_of, truth_of}
+use Rattle.promela_model.specs.Names.{number_from_digits as number_of}
 use Rattle.promela_model.specs.declared.mark.Constant.{Constant}
 use Rattle.promela_model.specs.declared.mark.Constant.TheVariants as constant
 use Rattle.pml_program.specs.declared.expr.Expr.{Expr}
@@ -32,6 +32,10 @@ pub literal-is : (c : Constant) → literal c ≡ value_of c
 literal-is (constant.Is x) = refl
 literal-is constant.Faulty = refl
 literal-is constant.Open = refl
+
+-- `true` and `skip` are 1, and `false` is 0
+abbrev truth_of : Bool → ℤ
+truth_of b = pos (if b then 1 else 0)
 
 pub truth-is : (b : Bool) → truth b ≡ truth_of b
 truth-is true = refl

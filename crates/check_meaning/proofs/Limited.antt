@@ -20,7 +20,8 @@ use Rattle.pml_program.specs.declared.program.Proctype.{Proctype}
 use Rattle.pml_program.specs.declared.program.Program.{Program}
 use Rattle.check_resolve.specs.Declarations.{Known, known, with_variables}
 use Rattle.check_resolve.specs.Model.{Made, made, no_program, with_unit, with_units, numbered_model}
-use Rattle.promela_model.specs.Stands.{Globals, cells_in_all, nothing_of}
+use Rattle.promela_model.specs.Stands.{Globals, cells_in_all}
+use Rattle.check_meaning.proofs.Words.{nothing_of}
 use Rattle.check_meaning.proofs.Growing.{Below, variables-below, held-below}
 use Rattle.check_meaning.proofs.Reading.{ReadsAll}
 use Rattle.check_meaning.proofs.Quiet.{env-append, quiet-begins}

@@ -14,7 +14,7 @@ use Rattle.pml_tree.specs.declared.tree.Item.{Item, Item-F, map-Item, roll-Item,
 use Rattle.pml_tree.specs.declared.tree.Seq.{Seq as TreeSeq, Seq-F, map-Seq, roll-Seq, fold-roll-Seq, ind-Seq}
 use Rattle.promela_model.specs.Marks as marked
 use Rattle.promela_model.specs.Marks.{Marked, all_marks, of_seq, of_expr, of_sort, of_size, of_initial, of_variable, of_variables, one_mark}
-use Rattle.check_uses.specs.Parts.{of_basic, of_item, size_of}
+use Rattle.check_uses.specs.Parts.{item_layer as marked_item, seq_layer as marked_seq, of_basic, of_item, size_of}
 use Rattle.promela_model.specs.Stands.{cells_in_all}
 use Rattle.promela_model.specs.declared.mark.Mark.{Mark}
 use Rattle.promela_model.specs.declared.mark.Role.{Role}
@@ -249,13 +249,13 @@ module _ (all : List Entry) (o : ℕ) where
   basic-step (Basic-F.Unless x y) k =
       both-lead (quiet-leads (quiet-unless o) k) (both-lead (x.1 k) (y.1 (numbered_seq x.0 all o k).1))
 
-  item-step : (y : Item-F BB II SS) → Follows (numbered.item_layer (record { labels = y.labels; basic = numbered_basic y.basic.0; tokens = y.tokens })) (marked.item_layer (record { labels = y.labels; basic = of_basic y.basic.0; tokens = y.tokens }))
+  item-step : (y : Item-F BB II SS) → Follows (numbered.item_layer (record { labels = y.labels; basic = numbered_basic y.basic.0; tokens = y.tokens })) (marked_item (record { labels = y.labels; basic = of_basic y.basic.0; tokens = y.tokens }))
   item-step y k = both-lead (quiet-leads (quiet-labels y.labels o) k) (y.basic.1 k)
 
   basic-proof : (x : Basic-F TreeBasic Item TreeSeq) (y : Basic-F BB II SS) → bare y ≡ x → PB (roll-Basic x)
   basic-proof x y is = subst (λ z. PB (roll-Basic z)) is (
       subst (λ (f : Threaded (Option Basic)). Follows f (of_basic (roll-Basic (bare y)))) (sym (fold-roll-Basic (Threaded (Option Basic)) (Threaded (List Stmt)) (Threaded Seq) numbered.basic_layer numbered.item_layer numbered.seq_layer (bare y)))
-      (subst (Follows (numbered_bare y)) (sym (fold-roll-Basic Marked Marked Marked marked.basic_layer marked.item_layer marked.seq_layer (bare y))) (basic-step y)))
+      (subst (Follows (numbered_bare y)) (sym (fold-roll-Basic Marked Marked Marked marked.basic_layer marked_item marked_seq (bare y))) (basic-step y)))
 
   item-proof : (x : Item-F TreeBasic Item TreeSeq) (y : Item-F BB II SS) → map-Item BB II SS TreeBasic Item TreeSeq (λ e. e.0) (λ e. e.0) (λ e. e.0) y ≡ x → PI (roll-Item x)
   item-proof x y is =
@@ -263,7 +263,7 @@ module _ (all : List Entry) (o : ℕ) where
       let f : Threaded (List Stmt) = numbered.item_layer (record { labels = y.labels; basic = numbered_basic y.basic.0; tokens = y.tokens }) in
       subst (λ z. PI (roll-Item z)) is (
       subst (λ (g : Threaded (List Stmt)). Follows g (of_item (roll-Item z))) (sym (fold-roll-Item (Threaded (Option Basic)) (Threaded (List Stmt)) (Threaded Seq) numbered.basic_layer numbered.item_layer numbered.seq_layer z))
-      (subst (Follows f) (sym (fold-roll-Item Marked Marked Marked marked.basic_layer marked.item_layer marked.seq_layer z)) (item-step y)))
+      (subst (Follows f) (sym (fold-roll-Item Marked Marked Marked marked.basic_layer marked_item marked_seq z)) (item-step y)))
 
   seq-proof : (x : Seq-F TreeBasic Item TreeSeq) (y : Seq-F BB II SS) → map-Seq BB II SS TreeBasic Item TreeSeq (λ e. e.0) (λ e. e.0) (λ e. e.0) y ≡ x → PS (roll-Seq x)
   seq-proof x y is =
@@ -271,7 +271,7 @@ module _ (all : List Entry) (o : ℕ) where
       let f : Threaded Seq = numbered.seq_layer (record { items = map numbered_item (items y.items) }) in
       subst (λ z. PS (roll-Seq z)) is (
       subst (λ (g : Threaded Seq). Follows g (of_seq (roll-Seq z))) (sym (fold-roll-Seq (Threaded (Option Basic)) (Threaded (List Stmt)) (Threaded Seq) numbered.basic_layer numbered.item_layer numbered.seq_layer z))
-      (subst (Follows f) (sym (fold-roll-Seq Marked Marked Marked marked.basic_layer marked.item_layer marked.seq_layer z)) (items-follow y.items)))
+      (subst (Follows f) (sym (fold-roll-Seq Marked Marked Marked marked.basic_layer marked_item marked_seq z)) (items-follow y.items)))
 
   pub seq-leads : (s : TreeSeq) → PS s
   seq-leads = ind-Seq PB PI PS basic-proof item-proof seq-proof

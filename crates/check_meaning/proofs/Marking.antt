@@ -9,8 +9,8 @@ use Rattle.pml_tree.specs.declared.tree.Seq.{Seq, roll-Seq, fold-roll-Seq, ind-S
 use Rattle.pml_tree.specs.declared.tree.Unit.{Unit as Part}
 use Rattle.pml_tree.specs.declared.tree.Unit.TheVariants as part
 use Rattle.pml_tree.specs.declared.tree.Tree.{Tree}
-use Rattle.promela_model.specs.Marks.{Marked, one_mark, all_marks, made_by, of_variable, of_variables, basic_layer, item_layer, seq_layer, of_seq, of_starts, of_unit, of_units, of_tree, is_proctype}
-use Rattle.check_uses.specs.Parts.{of_basic, of_item, size_of, proctypes_past}
+use Rattle.promela_model.specs.Marks.{Marked, one_mark, all_marks, made_by, of_variable, of_variables, basic_layer, of_seq, of_starts, of_unit, of_units, of_tree, is_proctype}
+use Rattle.check_uses.specs.Parts.{item_layer, seq_layer, of_basic, of_item, size_of, proctypes_past}
 use Rattle.promela_model.specs.declared.mark.Mark.{Mark}
 use Rattle.promela_model.specs.declared.mark.Role.{Role}
 use Rattle.promela_model.specs.declared.mark.Role.TheVariants as role

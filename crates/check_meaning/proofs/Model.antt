@@ -6,7 +6,7 @@ use Rattle.promela_model.specs.Marks.{of_tree}
 use Rattle.check_names.specs.Env.{env}
 use Rattle.pml_program.specs.declared.program.Program.{Program}
 use Rattle.check_resolve.specs.Model.{made, no_program, numbered_model}
-use Rattle.promela_model.specs.Stands.{nothing_of}
+use Rattle.check_meaning.proofs.Words.{nothing_of}
 use Rattle.promela_model.specs.StandsModel as stands
 use Rattle.promela_model.specs.StandsModel.{StandsModel}
 use Rattle.check_meaning.proofs.Declaring.{Base}

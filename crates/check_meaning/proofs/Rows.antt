@@ -39,12 +39,12 @@ use Rattle.pml_program.specs.declared.program.Seq.{Seq}
 use Rattle.pml_program.specs.declared.expr.Expr.TheVariants as v
 use Rattle.pml_program.specs.declared.expr.Want.TheVariants as w
 use Rattle.pml_program.specs.declared.expr.Target.{Target}
-use Rattle.check_meaning.proofs.Words.{with_constants, program_of}
+use Rattle.check_meaning.proofs.Words.{stmt_of, steps_of, nothing_of, with_constants, program_of}
 use Rattle.promela_model.specs.Stands
-use Rattle.promela_model.specs.Stands.{Place, Mtype, Pid, Count, Anything, Nothing, turn_to, target_at, StandsExpr, StandsReference, StandsArgument, Globals, constant_named, nothing_of}
+use Rattle.promela_model.specs.Stands.{Place, Mtype, Pid, Count, Anything, Nothing, turn_to, target_at, StandsExpr, StandsReference, StandsArgument, Globals, constant_named}
 use Rattle.promela_grammar.specs.Expressions.{named_step, reference_of}
 use Rattle.promela_model.specs.StandsModel as statement
-use Rattle.promela_model.specs.StandsModel.{StandsModel, stmt_of, steps_of, StandsAction, StandsBasic, StandsItems, StandsSeq, StandsVariables, StandsVariable, StandsRun}
+use Rattle.promela_model.specs.StandsModel.{StandsModel, StandsAction, StandsBasic, StandsItems, StandsSeq, StandsVariables, StandsVariable, StandsRun}
 use Rattle.promela_grammar.specs.Actions.{item_of, seq_of}
 
 abbrev named : List ℕ → Word

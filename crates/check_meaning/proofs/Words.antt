@@ -4,13 +4,28 @@ use Rattle.std.specs.Option.{option_map_or}
 use Rattle.pml_token.specs.Word.{Word}
 use Rattle.pml_tree.specs.declared.tree.Variable.{Variable}
 use Rattle.pml_tree.specs.declared.tree.Proctype.{Proctype as TreeProctype}
+use Rattle.pml_tree.specs.declared.tree.Unit.{Unit as Part}
 use Rattle.pml_program.specs.declared.program.Slot.{Slot}
-use Rattle.pml_program.specs.declared.program.Seq.{Seq}
+use Rattle.pml_program.specs.declared.program.Basic.{Basic}
+use Rattle.pml_program.specs.declared.program.Stmt.{Stmt, roll-Stmt}
+use Rattle.pml_program.specs.declared.program.Seq.{Seq, roll-Seq}
 use Rattle.pml_program.specs.declared.program.Fields.{Fields}
 use Rattle.pml_program.specs.declared.program.Proctype.{Proctype}
 use Rattle.pml_program.specs.declared.program.Program.{Program}
 use Rattle.promela_model.specs.Stands.{Globals, Structure, with_constant}
 use Rattle.promela_model.specs.StandsModel.{beginning}
+
+-- a statement of the model, with its labels and its tokens
+abbrev pub stmt_of : List Word → Basic → List Word → Stmt
+stmt_of labels x tokens = roll-Stmt (record { labels = labels; basic = x; tokens = tokens })
+
+-- statements of the model, one behind another
+abbrev pub steps_of : List Stmt → Seq
+steps_of xs = roll-Seq (record { steps = xs })
+
+-- nothing is declared yet
+abbrev pub nothing_of : List Part → Globals
+nothing_of us = record { text = us; variables = []; constants = []; typedefs = []; proctypes = [] }
 
 -- the same, with a number one higher
 abbrev pub one_behind : Option (ℕ × Slot) → Option (ℕ × Slot)

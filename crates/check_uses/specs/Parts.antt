@@ -6,7 +6,8 @@ use Rattle.pml_tree.specs.declared.tree.Argument.{Argument}
 use Rattle.pml_tree.specs.declared.tree.Reference.{Reference}
 use Rattle.pml_tree.specs.declared.tree.Step.{Step, fold-Step}
 use Rattle.pml_tree.specs.declared.tree.Basic.{Basic, fold-Basic}
-use Rattle.pml_tree.specs.declared.tree.Item.{Item, fold-Item}
+use Rattle.pml_tree.specs.declared.tree.Item.{Item, Item-F, fold-Item}
+use Rattle.pml_tree.specs.declared.tree.Seq.{Seq-F}
 use Rattle.pml_tree.specs.declared.tree.Proctype.{Proctype}
 use Rattle.pml_tree.specs.declared.tree.Unit.{Unit as Part}
 use Rattle.promela_model.specs.declared.mark.Constant.{Constant}
@@ -17,11 +18,19 @@ use Rattle.promela_model.specs.declared.mark.Declared.TheVariants as declared_as
 use Rattle.promela_model.specs.declared.mark.What.TheVariants as what
 use Rattle.promela_model.specs.declared.mark.Mark.{Mark}
 use Rattle.promela_model.specs.Names.{constant}
-use Rattle.promela_model.specs.Marks.{Marked, MarkedStep, Referred, mark, all_marks, expr_layer, argument_layer, reference_layer, step_layer, basic_layer, item_layer, seq_layer, of_expr, of_argument, of_reference, of_starts, of_variables, of_seq, is_proctype}
+use Rattle.promela_model.specs.Marks.{Marked, MarkedStep, Referred, mark, all_marks, expr_layer, argument_layer, reference_layer, step_layer, basic_layer, of_expr, of_argument, of_reference, of_starts, of_variables, of_seq, is_proctype}
 
 -- a name of a reference, and the marks of its index
 abbrev pub of_step : Step → MarkedStep
 of_step = fold-Step Marked Marked Referred MarkedStep argument_layer expr_layer reference_layer step_layer
+
+-- the marks of the labels, and then of the statement
+abbrev pub item_layer : Item-F Marked Marked Marked → Marked
+item_layer i o = map (λ l. mark o (what.Label l)) i.labels ++ i.basic o
+
+-- the marks of statements, one after the other
+abbrev pub seq_layer : Seq-F Marked Marked Marked → Marked
+seq_layer s o = all_marks s.items o
 
 -- the marks of a statement
 abbrev pub of_basic : Basic → Marked

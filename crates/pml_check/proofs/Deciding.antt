@@ -13,7 +13,8 @@ use Rattle.promela_model.specs.Marks.{of_tree}
 use Rattle.promela_model.specs.declared.condition.Condition.{Condition}
 use Rattle.promela_model.specs.declared.condition.Condition.TheVariants as condition
 use Rattle.promela_model.specs.Decided as marks
-use Rattle.promela_model.specs.Decided.{Somewhere, Nowhere, broken, crosses_step, processes, first_channels}
+use Rattle.promela_model.specs.Decided.{Somewhere, broken, crosses_step, processes, first_channels}
+use Rattle.check_conditions.specs.Fitted.{Nowhere, FitsMarks}
 use Rattle.check_conditions.specs.Step.{begins_there, breaks_loose}
 use Rattle.pml_control.specs.declared.ends.Ending.{Ending}
 use Rattle.pml_control.specs.declared.ends.Ending.TheVariants as ending
@@ -27,7 +28,8 @@ use Rattle.pml_program.specs.declared.program.Proctype.{Proctype}
 use Rattle.pml_program.specs.declared.program.Program.{Program}
 use Rattle.check_resolve.specs.Model.{numbered_model}
 use Rattle.promela_run.specs.State.{State, first_state}
-use Rattle.promela_refusals.specs.Judged.{condition_of, BreaksModel, KeepsModel, HasBadStart, HasGoodStart, AppliesTo, FitsTo, Applies, Fits, IsFit, IsLeast}
+use Rattle.promela_refusals.specs.Judged.{condition_of, BreaksModel, AppliesTo, Applies, IsFit, IsLeast}
+use Rattle.pml_check.specs.Fitted.{KeepsModel, HasBadStart, HasGoodStart, FitsTo, Fits}
 use Rattle.pml_check.specs.Decided.{all_judged, FitsAll, IsFirst}
 use Rattle.pml_check.proofs.Seeking.{OneBelow, NoneBelow, below, of_list}
 use Rattle.pml_check.proofs.Ends.{are_ends}
@@ -71,7 +73,7 @@ few_begin n m most mosts = by_both (cases_lt most n) (cases_lt mosts m)
     by_both (inr g) (inl l) = inl (inr l)
     by_both (inr g) (inr h) = inr (g, h)
 
-on_marks : (x : Condition) (ms : List Mark) → marks.AppliesToMarks x ms ⊎ marks.FitsMarks x ms
+on_marks : (x : Condition) (ms : List Mark) → marks.AppliesToMarks x ms ⊎ FitsMarks x ms
 on_marks condition.Twice ms = somewhere (broken condition.Twice ms) ms
 on_marks condition.Unknown ms = somewhere (broken condition.Unknown ms) ms
 on_marks condition.Wrong ms = somewhere (broken condition.Wrong ms) ms
@@ -84,7 +86,7 @@ on_marks condition.Cells ms = somewhere (broken condition.Cells ms) ms
 on_marks condition.NoProcess ms = turned (somewhere begins_there ms)
 on_marks condition.Start ms = few_begin (processes ms) (first_channels ms) _ _
 
-on_condition : (o : Option Condition) (ms : List Mark) → IsSomeAnd o (λ c. marks.AppliesToMarks c ms) ⊎ IfSome o (λ c. marks.FitsMarks c ms)
+on_condition : (o : Option Condition) (ms : List Mark) → IsSomeAnd o (λ c. marks.AppliesToMarks c ms) ⊎ IfSome o (λ c. FitsMarks c ms)
 on_condition None ms = inr tt
 on_condition (Some x) ms = on_marks x ms
 
@@ -160,7 +162,7 @@ on_model r.Inline p = inr tt
 
 -- ---- on a tree
 
-on_both : (x : Refusal) (ms : List Mark) (p : Program) → IsSomeAnd (condition_of x) (λ c. marks.AppliesToMarks c ms) ⊎ IfSome (condition_of x) (λ c. marks.FitsMarks c ms) → BreaksModel x p ⊎ KeepsModel x p → AppliesTo x ms p ⊎ FitsTo x ms p
+on_both : (x : Refusal) (ms : List Mark) (p : Program) → IsSomeAnd (condition_of x) (λ c. marks.AppliesToMarks c ms) ⊎ IfSome (condition_of x) (λ c. FitsMarks c ms) → BreaksModel x p ⊎ KeepsModel x p → AppliesTo x ms p ⊎ FitsTo x ms p
 unfolding AppliesTo FitsTo
 on_both x ms p (inl a) other = inl (inl a)
 on_both x ms p (inr k) (inl a) = inl (inr a)
@@ -180,6 +182,14 @@ first_or_fit (x ∷ xs) ms p = by_both (each x ms p) (first_or_fit xs ms p)
     by_both (inl a) rest = inr (x, inl (refl, a))
     by_both (inr f) (inl all) = inl (f, all)
     by_both (inr f) (inr h) = inr (h.0, inr (f, h.1))
+
+-- what no refusal applies to fits each
+pub fits_of : (t : Tree) (x : Refusal) → IsFit t → Fits t x
+fits_of t x f = by_either (either t x)
+  where
+    by_either : Applies t x ⊎ Fits t x → Fits t x
+    by_either (inl a) = absurd (f x a)
+    by_either (inr g) = g
 
 pub judge : (t : Tree) → IsFit t ⊎ ((x : Refusal) × IsLeast t x)
 judge t = by_first (first_or_fit all_judged (of_tree t) (numbered_model t))

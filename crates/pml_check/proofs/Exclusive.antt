@@ -7,19 +7,21 @@ use Rattle.promela_model.specs.declared.mark.Mark.{Mark}
 use Rattle.promela_model.specs.declared.condition.Condition.{Condition}
 use Rattle.promela_model.specs.Decided as marks
 use Rattle.promela_model.specs.declared.condition.Condition.TheVariants as condition
-use Rattle.promela_model.specs.Decided.{Somewhere, Nowhere, broken, crosses_step}
+use Rattle.promela_model.specs.Decided.{Somewhere, broken, crosses_step}
+use Rattle.check_conditions.specs.Fitted.{Nowhere, FitsMarks}
 use Rattle.check_conditions.specs.Step.{begins_there, breaks_loose}
 use Rattle.pml_program.specs.declared.program.Seq.{Seq}
 use Rattle.promela_process.specs.Control.{BadFirstPoint, FirstPointsFit, Circle, SettlesEverywhere}
 use Rattle.pml_control.proofs.Settling.{circle_not}
 use Rattle.pml_program.specs.declared.program.Proctype.{Proctype}
 use Rattle.pml_program.specs.declared.program.Program.{Program}
-use Rattle.promela_refusals.specs.Judged.{condition_of, BreaksModel, KeepsModel, SomeBody, EachBody, HasBadStart, HasGoodStart, AppliesTo, FitsTo}
+use Rattle.promela_refusals.specs.Judged.{condition_of, BreaksModel, SomeBody, AppliesTo}
+use Rattle.pml_check.specs.Fitted.{KeepsModel, EachBody, HasBadStart, HasGoodStart, FitsTo}
 
 some_none : (p : List Mark → Mark → Bool) (ms : List Mark) → Somewhere p ms → Nowhere p ms → ⊥
 some_none p ms h f = let e : true ≡ false = sym h.3 ∙ f h.0 h.1 h.2 in absurd cc
 
-marks_apart : (x : Condition) (ms : List Mark) → marks.AppliesToMarks x ms → marks.FitsMarks x ms → ⊥
+marks_apart : (x : Condition) (ms : List Mark) → marks.AppliesToMarks x ms → FitsMarks x ms → ⊥
 marks_apart condition.Twice ms a f = some_none (broken condition.Twice ms) ms a f
 marks_apart condition.Unknown ms a f = some_none (broken condition.Unknown ms) ms a f
 marks_apart condition.Wrong ms a f = some_none (broken condition.Wrong ms) ms a f
@@ -33,7 +35,7 @@ marks_apart condition.NoProcess ms a f = some_none begins_there ms f a
 marks_apart condition.Start ms (inl a) f = let g = f.0 in omega arith
 marks_apart condition.Start ms (inr a) f = let g = f.1 in omega arith
 
-condition_apart : (x : Option Condition) (ms : List Mark) → IsSomeAnd x (λ c. marks.AppliesToMarks c ms) → IfSome x (λ c. marks.FitsMarks c ms) → ⊥
+condition_apart : (x : Option Condition) (ms : List Mark) → IsSomeAnd x (λ c. marks.AppliesToMarks c ms) → IfSome x (λ c. FitsMarks c ms) → ⊥
 condition_apart None ms a f = a
 condition_apart (Some x) ms a f = marks_apart x ms a f
 

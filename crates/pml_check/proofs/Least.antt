@@ -9,7 +9,8 @@ use Rattle.promela_model.specs.declared.mark.Mark.{Mark}
 use Rattle.promela_model.specs.Marks.{of_tree}
 use Rattle.pml_program.specs.declared.program.Program.{Program}
 use Rattle.check_resolve.specs.Model.{numbered_model}
-use Rattle.promela_refusals.specs.Judged.{AppliesTo, FitsTo, IsFit, IsLeast}
+use Rattle.promela_refusals.specs.Judged.{AppliesTo, IsFit, IsLeast}
+use Rattle.pml_check.specs.Fitted.{FitsTo}
 use Rattle.pml_check.specs.Decided.{all_judged, FitsAll, IsFirst}
 use Rattle.pml_check.proofs.Exclusive.{apart}
 use Rattle.pml_check.proofs.Standing.{applies_by, applied, fits_by, not_both}
@@ -153,8 +154,8 @@ one_least t x y a b = by_order (cases_lt (refusal_number x) (refusal_number y)) 
     by_order (inr g) (inr h) = same_number x y (omega arith)
 
 pub fit_has_none : (t : Tree) (x : Refusal) → IsFit t → IsLeast t x → ⊥
-fit_has_none t x f l = not_both t x l.applies (f x)
+fit_has_none t x f l = f x l.applies
 
--- a tree that fits what is judged fits all
+-- to a tree that fits what is judged no refusal applies
 pub fit_by : (t : Tree) → FitsAll all_judged (of_tree t) (numbered_model t) → IsFit t
-fit_by t f x = fits_by t x (fits_each (of_tree t) (numbered_model t) f x)
+fit_by t f x a = not_both t x a (fits_by t x (fits_each (of_tree t) (numbered_model t) f x))

@@ -7,7 +7,8 @@ use Rattle.pml_program.specs.declared.program.Program.{Program}
 use Rattle.check_resolve.specs.Model.{numbered_model}
 use Rattle.promela_model.specs.StandsModel.{StandsModel}
 use Rattle.check_meaning.proofs.Model.{model-stands, one-model}
-use Rattle.promela_refusals.specs.Judged.{AppliesTo, FitsTo, Applies, Fits}
+use Rattle.promela_refusals.specs.Judged.{AppliesTo, Applies}
+use Rattle.pml_check.specs.Fitted.{FitsTo, Fits}
 use Rattle.pml_check.proofs.Exclusive.{apart}
 
 pub is_numbered : (t : Tree) (p : Program) → StandsModel t p → p ≡ numbered_model t

@@ -5,7 +5,8 @@ use Rattle.diagnostics.specs.declared.refusal.Refusal.{Refusal}
 use Rattle.diagnostics.specs.declared.refusal.Refusal.TheVariants as r
 use Rattle.promela_model.specs.declared.mark.Mark.{Mark}
 use Rattle.pml_program.specs.declared.program.Program.{Program}
-use Rattle.promela_refusals.specs.Judged.{HasBadStart, HasGoodStart, AppliesTo, FitsTo}
+use Rattle.promela_refusals.specs.Judged.{AppliesTo}
+use Rattle.pml_check.specs.Fitted.{HasBadStart, HasGoodStart, FitsTo}
 use Rattle.pml_check.specs.Decided.{all_judged, judged_before_start, FitsAll, IsFirst}
 
 module _ (ms : List Mark) (p : Program) where

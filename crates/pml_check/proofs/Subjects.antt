@@ -6,7 +6,7 @@ use Rattle.promela_model.specs.declared.mark.Mark.{Mark}
 use Rattle.promela_model.specs.Marks.{of_tree}
 use Rattle.pml_program.specs.declared.program.Program.{Program}
 use Rattle.check_resolve.specs.Model.{numbered_model}
-use Rattle.promela_refusals.specs.Judged.{FitsTo, EachBody}
+use Rattle.pml_check.specs.Fitted.{FitsTo, EachBody}
 use Rattle.promela_process.specs.Control.{SettlesEverywhere}
 use Rattle.pml_check.specs.Decided.{all_judged, Finds}
 

@@ -19,6 +19,7 @@ use Rattle.check_names.proofs.Firsts.{told-before}
 use Rattle.promela_model.specs.declared.condition.Condition.TheVariants as condition
 use Rattle.promela_model.specs.Conditions.{judged, too_many}
 use Rattle.promela_model.specs.Decided as marks
+use Rattle.check_conditions.specs.Fitted.{FitsMarks}
 use Rattle.pml_program.specs.declared.program.Initial.{Initial}
 use Rattle.pml_program.specs.declared.program.Initial.TheVariants as i
 use Rattle.pml_program.specs.declared.program.Slot.{Slot}
@@ -31,7 +32,7 @@ use Rattle.promela_model.specs.Stands.{cells_in_all}
 use Rattle.check_meaning.proofs.Limits.{Few, AllFew, all-few, room, Rooms}
 use Rattle.check_meaning.proofs.Limited.{IsLimited, model-limited}
 use Rattle.run_start.specs.Bound.{cells_of, largest, room_by, room_of, room_of_fields, room_of_processes, IsWithin}
-use Rattle.promela_refusals.specs.Judged.{FitsTo}
+use Rattle.pml_check.specs.Fitted.{FitsTo}
 use Rattle.pml_check.specs.Decided.{all_judged, FitsAll}
 
 -- ---- the marks
@@ -54,7 +55,7 @@ few_here : (ms : List Mark) (k : ℕ) (m : Mark) → marks.broken condition.Cell
 unfolding judged env
 few_here ms k m h = few_by (env (take k ms)) m.owner m.what (ap (λ (b : Before). too_many b m.owner m.what) (told-before (take k ms)) ∙ h)
 
-all_few : (ms : List Mark) → marks.FitsMarks condition.Cells ms → AllFew [] ms
+all_few : (ms : List Mark) → FitsMarks condition.Cells ms → AllFew [] ms
 all_few ms h = all-few [] ms (λ k m e. few_here ms k m (h k m e))
 
 -- ---- the model

@@ -7,7 +7,8 @@ use Rattle.run_start.specs.Bound.{IsWithin}
 use Rattle.pml_flow.specs.Graph.{Graph, AreGraphs}
 use Rattle.pml_check.specs.declared.checked.CheckFault.{CheckFault}
 use Rattle.pml_check.specs.declared.checked.CheckFault.TheVariants as fault
-use Rattle.promela_refusals.specs.Judged.{IsFit, IsLeast, HasGoodStart}
+use Rattle.promela_refusals.specs.Judged.{IsFit, IsLeast}
+use Rattle.pml_check.specs.Fitted.{HasGoodStart}
 
 -- memory ran out, or this is the least refusal that applies
 abbrev pub IsRefused : Tree → CheckFault → Type 0

@@ -4,10 +4,12 @@ use Rattle.diagnostics.specs.declared.refusal.Refusal.{Refusal}
 use Rattle.diagnostics.specs.declared.refusal.Refusal.TheVariants as r
 use Rattle.promela_model.specs.declared.mark.Mark.{Mark}
 use Rattle.promela_model.specs.Decided as marks
+use Rattle.check_conditions.specs.Fitted as fitted
 use Rattle.promela_model.specs.declared.condition.Condition.{Condition}
 use Rattle.pml_program.specs.declared.program.Proctype.{Proctype}
 use Rattle.pml_program.specs.declared.program.Program.{Program}
-use Rattle.promela_refusals.specs.Judged.{SomeBody, EachBody, HasBadStart, HasGoodStart, BreaksModel, KeepsModel, AppliesTo, FitsTo}
+use Rattle.promela_refusals.specs.Judged.{SomeBody, BreaksModel, AppliesTo}
+use Rattle.pml_check.specs.Fitted.{EachBody, HasBadStart, HasGoodStart, KeepsModel, FitsTo}
 use Rattle.promela_process.specs.Control.{BadFirstPoint, Circle, FirstPointsFit, SettlesEverywhere}
 
 abbrev pub DecidesCircles : Bool → List Proctype → Type 0
@@ -20,7 +22,7 @@ DecidesSteps false ps = EachBody FirstPointsFit ps
 
 abbrev pub DecidesCondition : Bool → Option Condition → List Mark → Type 0
 DecidesCondition true x ms = IsSomeAnd x (λ c. marks.AppliesToMarks c ms)
-DecidesCondition false x ms = IfSome x (λ c. marks.FitsMarks c ms)
+DecidesCondition false x ms = IfSome x (λ c. fitted.FitsMarks c ms)
 
 abbrev pub DecidesStart : Bool → Program → Type 0
 DecidesStart true p = HasBadStart p

@@ -1,3 +1,4 @@
+pub mod Fitted
 pub mod Decided
 pub mod Broken
 pub mod Subject

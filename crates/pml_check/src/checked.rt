@@ -62,7 +62,7 @@ impl<'a> Model for Checked<'a> {
 impl<'a> Checked<'a> {
     ghost use Rattle.pml_flow.specs.Graph.{AreGraphs};
     ghost use Rattle.run_start.specs.Bound.{IsWithin};
-    ghost use Rattle.promela_refusals.specs.Judged.{HasGoodStart};
+    ghost use Rattle.pml_check.specs.Fitted.{HasGoodStart};
 
     /// The model: its cells and its channels are within the limits, and no variable of its first state begins with a fault.
     pub fn program(&self) -> &Program<'a>

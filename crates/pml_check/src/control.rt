@@ -3,7 +3,7 @@
 ghost use Rattle.std.specs.Prelude.{◌≡◌, ◌||◌, IfOk};
 ghost use Rattle.pml_control.specs.Plan.{ArePlans};
 ghost use Rattle.pml_flow.specs.Graph.{AreGraphs};
-ghost use Rattle.promela_refusals.specs.Judged.{EachBody};
+ghost use Rattle.pml_check.specs.Fitted.{EachBody};
 ghost use Rattle.promela_process.specs.Control.{SettlesEverywhere};
 ghost use Rattle.pml_check.specs.Decided.{DecidesCircles, DecidesSteps};
 

@@ -53,7 +53,7 @@ fn breaks_control(refusal: Refusal, control: Findings) -> bool
 }
 
 /// Whether a refusal applies: any but that of the first state.
-#[tactic(auto, unfolding(promela_run::specs::Judged::AppliesTo, promela_run::specs::Judged::FitsTo))]
+#[tactic(auto, unfolding(promela_refusals::specs::Judged::AppliesTo, crate::specs::Fitted::FitsTo))]
 fn refuses(refusal: Refusal, subject: &Subject) -> bool
     requires other { refusal ≢ r.Initialiser }
     ensures { (t : Tree) → IsSubject t subject.now → Decides result refusal (of_tree t) (numbered_model t) }

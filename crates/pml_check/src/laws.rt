@@ -3,7 +3,8 @@
 ghost use Rattle.std.specs.Prelude.{◌≡◌, ◌⊎◌};
 ghost use Rattle.diagnostics.specs.declared.refusal.Refusal.{Refusal};
 ghost use Rattle.pml_tree.specs.declared.tree.Tree.{Tree};
-ghost use Rattle.promela_refusals.specs.Judged.{Applies, Fits, IsFit, IsLeast};
+ghost use Rattle.promela_refusals.specs.Judged.{Applies, IsFit, IsLeast};
+ghost use Rattle.pml_check.specs.Fitted.{Fits};
 
 /// One refusal at most is the least that applies to a tree, and none applies to a tree that fits.
 pub fn one_answer()

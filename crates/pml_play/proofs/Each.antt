@@ -23,9 +23,10 @@ use Rattle.pml_syntax.specs.ReadingUnits as reading
 use Rattle.pml_syntax.proofs.Whole.{is_found, is_none}
 use Rattle.check_resolve.specs.Model.{numbered_model}
 use Rattle.check_meaning.proofs.Model.{model-stands}
-use Rattle.promela_refusals.specs.Judged.{FitsTo, HasGoodStart, IsFit, IsLeast}
+use Rattle.promela_refusals.specs.Judged.{IsFit, IsLeast}
+use Rattle.pml_check.specs.Fitted.{FitsTo, HasGoodStart}
 use Rattle.pml_check.proofs.Standing.{fitted}
-use Rattle.pml_check.proofs.Deciding.{judge}
+use Rattle.pml_check.proofs.Deciding.{fits_of, judge}
 use Rattle.promela_run.specs.World.{first, rules}
 use Rattle.pml_play.specs.Transcript.{AreExpanded, IsSpelled, IsRefused, too_long, lexical, left_out, inline, too_deep, unspelled, unfit, IsTranscript, of_refusal, of_model}
 use Rattle.promela_session.specs.declared.form.Stream.TheVariants.{Unread}
@@ -159,7 +160,7 @@ spelled_or text = by_expanded (expanded_or text)
 -- in a tree that fits, no initialiser of the first state has a fault
 pub good_start : (t : Tree) → IsFit t → HasGoodStart (numbered_model t)
 unfolding FitsTo
-good_start t f = (fitted t r.Initialiser (f r.Initialiser)).1
+good_start t f = (fitted t r.Initialiser (fits_of t r.Initialiser f)).1
 
 module _ (text : List ℕ) (options : Options) where
   abbrev pub Has : Type 0

@@ -103,9 +103,13 @@ abbrev weight_of : Option Basic → ℕ
 weight_of None = 0
 weight_of (Some y) = weight_in y
 
-seq_list : (ys : List Stmt) → weight_part (stands.steps_of ys) ≡ weight_list ys
+-- statements of the model, one behind another
+abbrev steps_of : List Stmt → Seq
+steps_of xs = roll-Seq (record { steps = xs })
+
+seq_list : (ys : List Stmt) → weight_part (steps_of ys) ≡ weight_list ys
 unfolding roll-Seq roll shape-the_row-Stmt-1
-seq_list ys = part_list (stands.steps_of ys) ∙ ap weight_list (items_hidden-the_row-Stmt-1 ys)
+seq_list ys = part_list (steps_of ys) ∙ ap weight_list (items_hidden-the_row-Stmt-1 ys)
 
 module _ (gs : Globals) where
   mutual

@@ -14,7 +14,7 @@ use Rattle.promela_run.specs.State.{first_state as begin, State}
 use Rattle.run_start.specs.Shown.{begun}
 use Rattle.run_start.specs.declared.started.Started.{Started}
 use Rattle.run_start.specs.Starting.{IsDeclared, Starts}
-use Rattle.promela_refusals.specs.Judged.{HasGoodStart}
+use Rattle.pml_check.specs.Fitted.{HasGoodStart}
 use Rattle.run_values.specs.declared.change.Wanted.{Wanted}
 use Rattle.run_values.specs.Changed.{changes as changed, step_changes}
 use Rattle.promela_run.specs.Lines.{value_lines}

@@ -18,13 +18,15 @@ use Rattle.promela_model.specs.declared.mark.Role.TheVariants as role
 use mathlib.Core.Bool.{beq}
 use Rattle.profile.specs.Characters.{percent, backslash, letter_c, letter_d, letter_e, letter_o, letter_u, letter_x}
 use Rattle.pml_tree.specs.declared.tree.Scalar.TheVariants.{Chan}
+use denote.Enum.Bare.{sameb}
+use Rattle.promela_model.specs.contracts.mark.Use.{the_type}
 use Rattle.promela_model.specs.declared.mark.Use.{Use}
 use Rattle.promela_model.specs.declared.mark.Use.TheVariants.{Read, Store, Receive, Channel, Preset}
 use Rattle.promela_model.specs.declared.mark.Shape.{Shape}
 use Rattle.promela_model.specs.declared.mark.Holder.TheVariants.{Chan, Other}
 use Rattle.promela_model.specs.declared.condition.Condition.{Condition}
 use Rattle.promela_model.specs.declared.condition.Condition.TheVariants as condition
-use Rattle.promela_model.specs.Names.{Naming, is_any, is_pid, is_special, meaning, field_of_type, Before, stride, numeral, count_of, length_of}
+use Rattle.promela_model.specs.Names.{Naming, is_any, is_pid, is_special, only_process, meaning, field_of_type, form_of, Before, stride, numeral, count_of, length_of}
 
 -- ---- a label stands twice, or is missing
 
@@ -113,28 +115,9 @@ unknown all names o _ = false
 abbrev pub is_plain : Shape → List Shape → Bool
 is_plain s ss = not s.indexed && nat_eq (length ss) 0
 
--- its value is read
-abbrev pub is_read : Use → Bool
-is_read Read = true
-is_read _ = false
-
--- it is given a value, by an assignment or by a receive
-abbrev pub is_stored : Use → Bool
-is_stored Store = true
-is_stored Receive = true
-is_stored _ = false
-
--- an mtype name is read, compared with a field, or an initialiser of a typedef's field
-abbrev pub is_compared : Use → Bool
-is_compared Read = true
-is_compared Receive = true
-is_compared Preset = true
-is_compared _ = false
-
--- it stands in the initialiser of a field
-abbrev pub is_preset : Use → Bool
-is_preset Preset = true
-is_preset _ = false
+-- two uses are the same
+abbrev pub same_use : Use → Use → Bool
+same_use = sameb the_type
 
 -- a value of this type: no typedef's, and `chan` where it is used as a channel
 abbrev pub misused : Use → Form → Bool
@@ -161,17 +144,17 @@ misfits names u f [] = misused u f
 misfits names u f (s ∷ ss) =
     if is_unknown f then false else misfits_in s.indexed (field_of_type names f s.name.text) (λ g. misfits names u g ss)
 
--- what is declared by this name is used as something else
+-- what is declared by this name is used as something else: the initialiser of a typedef's field wants an mtype name, which is only read or compared
 abbrev pub wrong_thing : Naming → Use → Option Thing → Shape → List Shape → Bool
-wrong_thing names u (Some (thing.Variable v)) s ss = is_preset u || (not (beq s.indexed v.array) || misfits names u v.form ss)
-wrong_thing names u (Some (thing.Constant n)) s ss = not (is_plain s ss && is_compared u)
+wrong_thing names u (Some (thing.Variable v)) s ss = same_use u Preset || (not (beq s.indexed v.array) || misfits names u v.form ss)
+wrong_thing names u (Some (thing.Constant n)) s ss = not (is_plain s ss && (same_use u Read || (same_use u Receive || same_use u Preset)))
 wrong_thing names u _ s ss = false
 
 -- `_` is only stored, and `_pid`, in a proctype, and `_nr_pr` are only read
 abbrev pub wrong_special : ℕ → Use → Shape → List Shape → Bool
 wrong_special o u s ss =
-    if is_any s.name.text then not (is_plain s ss && is_stored u)
-    else (if is_pid s.name.text then not (is_plain s ss && (is_read u && nat_lt 0 o)) else not (is_plain s ss && is_read u))
+    if is_any s.name.text then not (is_plain s ss && (same_use u Store || same_use u Receive))
+    else (if is_pid s.name.text then not (is_plain s ss && (same_use u Read && nat_lt 0 o)) else not (is_plain s ss && same_use u Read))
 
 -- a reference is used as something else than what it is declared as
 abbrev pub wrong_in : Naming → Naming → ℕ → Use → List Shape → Bool
@@ -179,23 +162,11 @@ wrong_in all names o u [] = false
 wrong_in all names o u (s ∷ ss) =
     if is_special s.name.text then wrong_special o u s ss else wrong_thing names u (meaning all names o s.name.text) s ss
 
--- what is declared by this name is no typedef
-abbrev pub no_typedef : Option Thing → Bool
-no_typedef None = false
-no_typedef (Some (thing.Typedef t n)) = false
-no_typedef (Some _) = true
-
--- what is declared by this name is no proctype
-abbrev pub no_process : Option Thing → Bool
-no_process None = false
-no_process (Some (thing.Proctype o n)) = false
-no_process (Some _) = true
-
 -- a name is used as something else than what it is declared as, or a value is not known that is wanted before the run
 abbrev pub wrong : Naming → Naming → ℕ → What → Bool
 wrong all names o (what.Uses u ss) = wrong_in all names o u ss
-wrong all names o (what.Typedef t) = is_special t.text || no_typedef (meaning all names o t.text)
-wrong all names o (what.Runs n k) = is_special n.text || no_process (meaning all names o n.text)
+wrong all names o (what.Typedef t) = is_special t.text || (let x = meaning all names o t.text in is_some x && is_unknown (form_of x))
+wrong all names o (what.Runs n k) = is_special n.text || (let x = meaning all names o n.text in is_some x && is_none (only_process x))
 wrong all names o (what.Size Open) = true
 wrong all names o (what.Starts Open) = true
 wrong all names o (what.Preset Open) = true

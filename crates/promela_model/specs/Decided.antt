@@ -1,6 +1,6 @@
 -- The conditions on breaks, d_steps and the first state, and which of all conditions refuse a model.
 -- Hold it against docs/REFUSALS.md, M6 to M17.
-use Rattle.std.specs.Prelude.{ℕ, zero, suc, ◌+◌, nat_eq, Bool, true, false, not, ◌&&◌, if◌then◌else◌, is_some, List, [], ◌∷◌, length, reverse, Option, Some, None, ◌*◌, ◌≡◌, ◌⊎◌, ◌<◌, ◌≤◌, take, slice_get, sum_by}
+use Rattle.std.specs.Prelude.{ℕ, zero, suc, ◌+◌, nat_eq, Bool, true, false, not, ◌&&◌, if◌then◌else◌, is_some, List, [], ◌∷◌, length, reverse, Option, Some, None, ◌*◌, ◌≡◌, ◌⊎◌, ◌<◌, take, slice_get, sum_by}
 use Rattle.std.specs.Option.{option_or, option_eq, option_map_or}
 use Rattle.std.specs.List.{list_any}
 use Rattle.std.specs.Str.{bytes_eq}
@@ -18,7 +18,7 @@ use Rattle.promela_model.specs.Names.{Naming, form, before, count_of, length_of}
 use Rattle.profile.specs.declared.TheConstants.{MOST_CHANNELS, MOST_PROCESSES}
 use Rattle.promela_model.specs.declared.condition.Condition.{Condition}
 use Rattle.promela_model.specs.declared.condition.Condition.TheVariants as condition
-use Rattle.promela_model.specs.Conditions.{Around, judged}
+use Rattle.promela_model.specs.Conditions.{judged}
 
 -- a do or a d_step, with how many marks stand before its own
 abbrev pub Open : Type 0
@@ -53,13 +53,9 @@ innermost_step [] = None
 innermost_step ((Do, k) ∷ outer) = innermost_step outer
 innermost_step ((DStep, k) ∷ outer) = Some k
 
--- what a place stands in: whether a `do` is open, whether a break would leave a d_step, and the innermost d_step
-abbrev pub round_of : List Open → Round
-round_of xs = record { looped = has_do xs; cut = is_cut xs; step = innermost_step xs }
-
--- what stands round the place behind these marks
+-- what stands round the place behind these marks: whether a `do` is open, whether a break would leave a d_step, and the innermost d_step
 abbrev pub round : List Mark → Round
-round ms = round_of (opened (reverse ms) 0)
+round ms = let xs = opened (reverse ms) 0 in record { looped = has_do xs; cut = is_cut xs; step = innermost_step xs }
 
 -- ---- labels
 
@@ -135,21 +131,14 @@ first_channels ms = channels_in ms 0 + sum_by (λ m. started m.what * channels_i
 abbrev pub Somewhere : (List Mark → Mark → Bool) → List Mark → Type 0
 Somewhere p ms = (k : ℕ) × (m : Mark) × (slice_get ms k ≡ Some m) × (p (take k ms) m ≡ true)
 
--- no mark is so, by the marks before it
-abbrev pub Nowhere : (List Mark → Mark → Bool) → List Mark → Type 0
-Nowhere p ms = (k : ℕ) (m : Mark) → slice_get ms k ≡ Some m → p (take k ms) m ≡ false
-
 -- whether one of these marks is
 abbrev pub has_label : List Mark → ℕ → List ℕ → Bool
 has_label ms o n = list_any (λ m. is_label o n m.owner m.what) ms
 
--- what stands before a mark and in the whole text, by which its condition is asked
-abbrev pub around : List Mark → List Mark → Around
-around ms first = record { all = (before ms).names; every_label = has_label ms; before = before first; labels = has_label first }
-
 -- whether a mark breaks a condition on names, kinds, counts or ranges, among these marks and behind those that stand first
 abbrev pub broken : Condition → List Mark → List Mark → Mark → Bool
-broken r ms first m = judged r (around ms first) m.owner m.what
+broken r ms first m =
+    judged r (record { all = (before ms).names; every_label = has_label ms; before = before first; labels = has_label first }) m.owner m.what
 
 -- what enters or leaves a d_step, and an unless in one
 abbrev pub crosses_step : List Mark → List Mark → Mark → Bool
@@ -159,14 +148,6 @@ crosses_step ms before m = crosses (labelled (reverse ms)) (round before) m.owne
 abbrev pub AppliesToMarks : Condition → List Mark → Type 0
 AppliesToMarks condition.Break ms = Somewhere (λ before m. loose (round before) m.what) ms
 AppliesToMarks condition.Step ms = Somewhere (crosses_step ms) ms
-AppliesToMarks condition.NoProcess ms = Nowhere (λ before m. starts_processes m.what) ms
+AppliesToMarks condition.NoProcess ms = (k : ℕ) (m : Mark) → slice_get ms k ≡ Some m → starts_processes m.what ≡ false
 AppliesToMarks condition.Start ms = (MOST_PROCESSES < processes ms) ⊎ (MOST_CHANNELS < first_channels ms)
 AppliesToMarks r ms = Somewhere (broken r ms) ms
-
--- it does not
-abbrev pub FitsMarks : Condition → List Mark → Type 0
-FitsMarks condition.Break ms = Nowhere (λ before m. loose (round before) m.what) ms
-FitsMarks condition.Step ms = Nowhere (crosses_step ms) ms
-FitsMarks condition.NoProcess ms = Somewhere (λ before m. starts_processes m.what) ms
-FitsMarks condition.Start ms = (processes ms ≤ MOST_PROCESSES) × (first_channels ms ≤ MOST_CHANNELS)
-FitsMarks r ms = Nowhere (broken r ms) ms

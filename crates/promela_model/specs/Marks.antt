@@ -15,8 +15,7 @@ use Rattle.pml_tree.specs.declared.tree.Run.{Run}
 use Rattle.pml_tree.specs.declared.tree.Action.{Action}
 use Rattle.pml_tree.specs.declared.tree.Action.TheVariants as action
 use Rattle.pml_tree.specs.declared.tree.Basic.{Basic-F}
-use Rattle.pml_tree.specs.declared.tree.Item.{Item-F}
-use Rattle.pml_tree.specs.declared.tree.Seq.{Seq, Seq-F, fold-Seq}
+use Rattle.pml_tree.specs.declared.tree.Seq.{Seq, fold-Seq}
 use Rattle.promela_model.specs.declared.mark.Use.{Use}
 use Rattle.promela_model.specs.declared.mark.Use.TheVariants.{Read, Store, Update, Receive, Channel}
 use Rattle.promela_model.specs.declared.mark.Use.TheVariants as use_of
@@ -188,21 +187,11 @@ basic_layer (Basic-F.Atomic m) o = m o
 basic_layer (Basic-F.DStep m) o = one_mark (what.Enter DStep) o ++ (m o ++ one_mark what.Leave o)
 basic_layer (Basic-F.Unless m e) o = one_mark what.Unless o ++ (m o ++ e o)
 
--- the marks of the labels, and then of the statement
-abbrev pub item_layer : Item-F Marked Marked Marked → Marked
-item_layer i o = map (λ l. mark o (what.Label l)) i.labels ++ i.basic o
-
--- the marks of statements, one after the other
-abbrev pub seq_layer : Seq-F Marked Marked Marked → Marked
-seq_layer s o = all_marks s.items o
-
--- the marks of statements one behind another
+-- the marks of statements one behind another: of each those of its labels, and then its own
 abbrev pub of_seq : Seq → Marked
-of_seq = fold-Seq Marked Marked Marked basic_layer item_layer seq_layer
+of_seq = fold-Seq Marked Marked Marked basic_layer (λ i o. map (λ l. mark o (what.Label l)) i.labels ++ i.basic o) (λ s o. all_marks s.items o)
 
--- ---- the marks of units, and of a whole model
-
--- ---- units
+-- ---- units, and a whole model
 
 -- the marks of how many processes begin
 abbrev pub of_starts : Starts → Marked

@@ -71,15 +71,10 @@ is_constant op.Divide = true
 is_constant op.Remainder = true
 is_constant _ = false
 
--- `true` and `skip` are 1, and `false` is 0
-abbrev pub truth_of : Bool → ℤ
-truth_of true = pos 1
-truth_of false = pos 0
-
--- the value of an expression by those of its parts; of the operators before a part a minus sign alone keeps it known
+-- the value of an expression by those of its parts: `true` and `skip` are 1, and `false` is 0; of the operators before a part a minus sign alone keeps it known
 abbrev pub constant_layer : Expr-F (Unit {0}) Constant (Unit {0}) (Unit {0}) → Constant
 constant_layer (Expr-F.Number n) = number_from_digits n.text
-constant_layer (Expr-F.Truth b) = Is (truth_of b)
+constant_layer (Expr-F.Truth b) = Is (pos (if b then 1 else 0))
 constant_layer (Expr-F.Unary prefix.Minus a) = negated a
 constant_layer (Expr-F.Binary o a b) = if is_constant o then joined_constants o a b else Open
 constant_layer _ = Open

@@ -33,7 +33,7 @@ use Rattle.pml_program.specs.declared.expr.Want.{Want}
 use Rattle.pml_program.specs.declared.expr.Want.TheVariants as w
 use Rattle.pml_program.specs.declared.expr.Target.{Target, roll-Target}
 use Rattle.pml_program.specs.declared.expr.Turn.{Turn, roll-Turn}
-use Rattle.promela_model.specs.Names.{number_from_digits as number_of, negated, truth_of}
+use Rattle.promela_model.specs.Names.{number_from_digits as number_of, negated}
 use Rattle.promela_model.specs.Marks.{is_proctype}
 
 -- ---- what is declared before a place
@@ -116,10 +116,6 @@ with_typedef gs x = if is_declared gs x.name.text then gs else record gs { typed
 -- one more proctype, where nothing has its name yet
 abbrev pub with_proctype : Globals → Word → Globals
 with_proctype gs w = if is_declared gs w.text then gs else record gs { proctypes = gs.proctypes ++ w ∷ [] }
-
--- nothing yet
-abbrev pub nothing_of : List Part → Globals
-nothing_of us = record { text = us; variables = []; constants = []; typedefs = []; proctypes = [] }
 
 -- ---- cells
 
@@ -224,7 +220,7 @@ mutual
 
   pub data StandsExpr (gs : Globals) (ls : List Slot) : TreeExpr → Expr → Type 0 where
     number : (n : Word) → StandsExpr gs ls (e.Number n) (v.Number (value_of (number_of n.text)))
-    truth : (c : Bool) → StandsExpr gs ls (e.Truth c) (v.Number (truth_of c))
+    truth : (c : Bool) → StandsExpr gs ls (e.Truth c) (v.Number (pos (if c then 1 else 0)))
     timeout : StandsExpr gs ls e.Timeout v.Timeout
     read : {r : Reference} {m : Meaning} → StandsReference gs ls r m → StandsExpr gs ls (e.Read r) (as_value m)
     ask : (f : Fill) {r : Reference} {m : Meaning} → StandsReference gs ls r m → StandsExpr gs ls (e.Ask f r) (v.Ask f (as_place m))
@@ -239,7 +235,7 @@ mutual
   -- an argument of a receive or a poll
   pub data StandsArgument (gs : Globals) (ls : List Slot) : Argument → Want → Type 0 where
     exactly : (i : Sign) (n : Word) → StandsArgument gs ls (g.Exactly i n) (w.Exactly (value_of (with_sign i (number_of n.text))))
-    fixed : (c : Bool) → StandsArgument gs ls (g.Fixed c) (w.Exactly (truth_of c))
+    fixed : (c : Bool) → StandsArgument gs ls (g.Fixed c) (w.Exactly (pos (if c then 1 else 0)))
     equal : {a : TreeExpr} {x : Expr} → StandsExpr gs ls a x → StandsArgument gs ls (g.Eval a) (w.Equal x)
     into : {r : Reference} {m : Meaning} → StandsReference gs ls r m → StandsArgument gs ls (g.Into r) (as_wanted m)
 

@@ -42,7 +42,7 @@ use Rattle.pml_program.specs.declared.program.Basic.{Basic}
 use Rattle.pml_program.specs.declared.program.Basic.TheVariants as b
 use Rattle.pml_program.specs.declared.program.Stmt.{Stmt, roll-Stmt}
 use Rattle.pml_program.specs.declared.program.Seq.{Seq, roll-Seq}
-use Rattle.promela_model.specs.Stands.{Meaning, Place, as_place, StandsExpr, StandsReference, StandsArguments, Globals, Structure, variable_named, typedef_named, proctype_named, cells_in_all, is_declared, with_constant, with_typedef, with_proctype, nothing_of}
+use Rattle.promela_model.specs.Stands.{Meaning, Place, as_place, StandsExpr, StandsReference, StandsArguments, Globals, Structure, variable_named, typedef_named, proctype_named, cells_in_all, is_declared, with_constant, with_typedef, with_proctype}
 use Rattle.pml_tree.specs.declared.tree.Starts.{Starts}
 use Rattle.pml_tree.specs.declared.tree.Starts.TheVariants as starts
 use Rattle.pml_tree.specs.declared.tree.Proctype.{Proctype as TreeProctype}
@@ -136,14 +136,6 @@ pub data StandsAction (gs : Globals) (ls : List Slot) : TreeAction → Action �
 
 -- ---- bodies
 
--- a statement of the model, with its labels and its tokens
-abbrev pub stmt_of : List Word → Basic → List Word → Stmt
-stmt_of labels x tokens = roll-Stmt (record { labels = labels; basic = x; tokens = tokens })
-
--- statements of the model, one behind another
-abbrev pub steps_of : List Stmt → Seq
-steps_of xs = roll-Seq (record { steps = xs })
-
 mutual
   -- an item without its labels: none for what takes no step
   pub data StandsBasic (gs : Globals) : List Slot → TreeBasic → Option Basic → List Slot → Type 0 where
@@ -169,10 +161,10 @@ mutual
         → StandsBasic gs ls x None ms → StandsItems gs ms is ys zs → StandsItems gs ls (item_of labels x tokens ∷ is) ys zs
     one_step : {ls ms zs : List Slot} {labels tokens : List Word} {x : TreeBasic} {y : Basic} {is : List Item} {ys : List Stmt}
         → StandsBasic gs ls x (Some y) ms → StandsItems gs ms is ys zs
-        → StandsItems gs ls (item_of labels x tokens ∷ is) (stmt_of labels y tokens ∷ ys) zs
+        → StandsItems gs ls (item_of labels x tokens ∷ is) (roll-Stmt (record { labels = labels; basic = y; tokens = tokens }) ∷ ys) zs
 
   pub data StandsSeq (gs : Globals) : List Slot → TreeSeq → Seq → List Slot → Type 0 where
-    sequence : {ls zs : List Slot} {is : List Item} {ys : List Stmt} → StandsItems gs ls is ys zs → StandsSeq gs ls (seq_of is) (steps_of ys) zs
+    sequence : {ls zs : List Slot} {is : List Item} {ys : List Stmt} → StandsItems gs ls is ys zs → StandsSeq gs ls (seq_of is) (roll-Seq (record { steps = ys })) zs
 
   pub data StandsOptions (gs : Globals) : List Slot → List TreeSeq → List Seq → List Slot → Type 0 where
     no_option : {ls : List Slot} → StandsOptions gs ls [] [] ls
@@ -227,5 +219,5 @@ pub data StandsUnits : ℕ → Globals → List Part → Globals → List Word �
 -- a tree stands for a checked model
 pub data StandsModel : Tree → Program → Type 0 where
   model : {t : Tree} {zs : Globals} {cs : List Word} {ts : List Fields} {ps : List Proctype}
-      → StandsUnits 1 (nothing_of t.units) t.units zs cs ts ps
+      → StandsUnits 1 (record { text = t.units; variables = []; constants = []; typedefs = []; proctypes = [] }) t.units zs cs ts ps
       → StandsModel t (record { globals = zs.variables; constants = cs; typedefs = ts; proctypes = ps })

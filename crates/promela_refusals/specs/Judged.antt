@@ -1,6 +1,6 @@
 -- The conditions that refuse a model, each by itself, and the least that applies.
 -- Hold it against docs/REFUSALS.md.
-use Rattle.std.specs.Prelude.{◌≡◌, ◌⊎◌, ◌<◌, ℕ, List, Option, Some, None, Ok, Err, slice_get, IsSomeAnd, IfSome}
+use Rattle.std.specs.Prelude.{◌≡◌, ◌⊎◌, ◌<◌, ℕ, List, Option, Some, None, Err, slice_get, IsSomeAnd}
 use Rattle.diagnostics.specs.declared.fault.Fault.{Fault}
 use Rattle.diagnostics.specs.declared.refusal.Refusal.{Refusal}
 use Rattle.diagnostics.specs.declared.refusal.Refusal.TheVariants as r
@@ -15,26 +15,14 @@ use Rattle.pml_program.specs.declared.program.Proctype.{Proctype}
 use Rattle.pml_program.specs.declared.program.Program.{Program}
 use Rattle.pml_program.specs.declared.program.Seq.{Seq}
 use Rattle.promela_model.specs.StandsModel.{StandsModel}
-use Rattle.promela_run.specs.State.{State, first_state}
-use Rattle.promela_process.specs.Control.{Circle, SettlesEverywhere, BadFirstPoint, FirstPointsFit}
+use Rattle.promela_run.specs.State.{first_state}
+use Rattle.promela_process.specs.Control.{Circle, BadFirstPoint}
 
 -- ---- what is asked of control, of the body of each proctype, and of the first state
 
 -- the body of one of these proctypes is so
 abbrev pub SomeBody : (Seq → Type 0) → List Proctype → Type 0
 SomeBody P ps = (k : ℕ) × (p : Proctype) × (slice_get ps k ≡ Some p) × P p.body
-
--- so is the body of each
-abbrev pub EachBody : (Seq → Type 0) → List Proctype → Type 0
-EachBody P ps = (k : ℕ) (p : Proctype) → slice_get ps k ≡ Some p → P p.body
-
--- what a variable of the first state begins with cannot be evaluated
-abbrev pub HasBadStart : Program → Type 0
-HasBadStart p = (f : Fault) × (first_state p ≡ Err f)
-
--- the initialisers have no fault
-abbrev pub HasGoodStart : Program → Type 0
-HasGoodStart p = (s : State) × (first_state p ≡ Ok s)
 
 -- ---- what is decided on the marks of the tree alone
 
@@ -60,25 +48,14 @@ condition_of _ = None
 abbrev pub BreaksModel : Refusal → Program → Type 0
 BreaksModel r.DStep p = SomeBody BadFirstPoint p.proctypes
 BreaksModel r.CircleOfGotos p = SomeBody Circle p.proctypes
-BreaksModel r.Initialiser p = HasBadStart p
+BreaksModel r.Initialiser p = (f : Fault) × (first_state p ≡ Err f)
 BreaksModel _ p = ⊥
 
--- the model keeps it: the first point of each d_step fits, settling ends at each place, the initialisers have no fault
-abbrev pub KeepsModel : Refusal → Program → Type 0
-KeepsModel r.DStep p = EachBody FirstPointsFit p.proctypes
-KeepsModel r.CircleOfGotos p = EachBody SettlesEverywhere p.proctypes
-KeepsModel r.Initialiser p = HasGoodStart p
-KeepsModel _ p = Unit {0}
-
--- ---- a refusal applies to a tree, or the tree fits it
+-- ---- the refusals that apply to a tree
 
 -- a refusal applies to a model, by its marks or by the model itself
 unfoldable pub AppliesTo : Refusal → List Mark → Program → Type 0
 AppliesTo x ms p = IsSomeAnd (condition_of x) (λ c. marks.AppliesToMarks c ms) ⊎ BreaksModel x p
-
--- the model has nothing that this refusal tells of
-unfoldable pub FitsTo : Refusal → List Mark → Program → Type 0
-FitsTo x ms p = IfSome (condition_of x) (λ c. marks.FitsMarks c ms) × KeepsModel x p
 
 -- a refusal applies to the tree and to the model that it stands for
 pub record Applies (t : Tree) (x : Refusal) : Type 0 where
@@ -86,15 +63,9 @@ pub record Applies (t : Tree) (x : Refusal) : Type 0 where
   pub stands : StandsModel t model
   pub applies : AppliesTo x (of_tree t) model
 
--- the tree and the model that it stands for fit what the refusal asks
-pub record Fits (t : Tree) (x : Refusal) : Type 0 where
-  pub model : Program
-  pub stands : StandsModel t model
-  pub fits : FitsTo x (of_tree t) model
-
--- the tree fits all conditions
+-- no refusal applies to the tree
 abbrev pub IsFit : Tree → Type 0
-IsFit t = (x : Refusal) → Fits t x
+IsFit t = (x : Refusal) → Applies t x → ⊥
 
 -- the refusal applies to the tree, and none with a lesser number does
 pub record IsLeast (t : Tree) (x : Refusal) : Type 0 where

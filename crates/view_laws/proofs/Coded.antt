@@ -159,13 +159,17 @@ steps_some (Seq' m row) h = row_some row h
 steps_each : (s : Seq) → EachOf (steps s) → IsFilledBody s
 steps_each (Seq' m row) h = row_each row h
 
-seq_some : (ys : List Stmt) → SomeOf ys → HasSteps (stands.steps_of ys)
-unfolding roll-Seq roll shape-the_row-Stmt-1
-seq_some ys h = steps_some (stands.steps_of ys) (subst SomeOf (sym (items_hidden-the_row-Stmt-1 ys)) h)
+-- statements of the model, one behind another
+abbrev steps_of : List Stmt → Seq
+steps_of xs = roll-Seq (record { steps = xs })
 
-seq_each : (ys : List Stmt) → EachOf ys → IsFilledBody (stands.steps_of ys)
+seq_some : (ys : List Stmt) → SomeOf ys → HasSteps (steps_of ys)
 unfolding roll-Seq roll shape-the_row-Stmt-1
-seq_each ys h = steps_each (stands.steps_of ys) (subst EachOf (sym (items_hidden-the_row-Stmt-1 ys)) h)
+seq_some ys h = steps_some (steps_of ys) (subst SomeOf (sym (items_hidden-the_row-Stmt-1 ys)) h)
+
+seq_each : (ys : List Stmt) → EachOf ys → IsFilledBody (steps_of ys)
+unfolding roll-Seq roll shape-the_row-Stmt-1
+seq_each ys h = steps_each (steps_of ys) (subst EachOf (sym (items_hidden-the_row-Stmt-1 ys)) h)
 
 -- the options of a choice, as a row
 abbrev row_of : Basic → (n : Count) × Row_of-Seq n

@@ -6,9 +6,9 @@ use Rattle.check_names.proofs.Looking.{env-empty, env-more, after-length}
 use Rattle.promela_model.specs.declared.condition.Condition.{Condition}
 use Rattle.promela_model.specs.declared.condition.Condition.TheVariants as condition
 use Rattle.promela_model.specs.Conditions.{judged}
-use Rattle.promela_model.specs.Decided.{is_label, around}
+use Rattle.promela_model.specs.Decided.{is_label}
 use Rattle.check_conditions.specs.First.{broken_at, found_of}
-use Rattle.check_conditions.specs.Labels.{told_around}
+use Rattle.check_conditions.specs.Labels.{told_around, around}
 use Rattle.check_conditions.proofs.Surrounding.{label-more, around-is}
 use Rattle.check_conditions.proofs.Looking.{none_more}
 use Rattle.check_conditions.proofs.Stopping.{AreJudged, found_is, first_here}

@@ -4,7 +4,7 @@ use Rattle.promela_model.specs.Marks.{of_tree}
 use Rattle.check_resolve.specs.Model.{numbered_model}
 use Rattle.pml_flow.specs.Graph.{AreGraphs}
 use Rattle.run_start.specs.Bound.{IsWithin}
-use Rattle.promela_refusals.specs.Judged.{EachBody, HasGoodStart}
+use Rattle.pml_check.specs.Fitted.{EachBody, HasGoodStart}
 use Rattle.promela_process.specs.Control.{SettlesEverywhere}
 use Rattle.pml_check.specs.Decided.{all_judged}
 use Rattle.pml_check.proofs.Least.{fit_by, first_is_least}

@@ -2,7 +2,7 @@ use Rattle.std.proofs.Common.{◌∙◌, None, sym, subst}
 use Rattle.promela_model.specs.Marks.{of_tree}
 use Rattle.check_resolve.specs.Model.{numbered_model}
 use Rattle.run_start.specs.Bound.{IsWithin}
-use Rattle.promela_refusals.specs.Judged.{HasBadStart, HasGoodStart}
+use Rattle.pml_check.specs.Fitted.{HasBadStart, HasGoodStart}
 use Rattle.pml_check.specs.Decided.{DecidesStart, judged_before_start}
 use Rattle.pml_check.proofs.Starting.{first_before, first_start, fits_start, fits_cells}
 use Rattle.pml_check.proofs.Subjects.{found_of}
