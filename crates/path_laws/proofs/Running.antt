@@ -6,7 +6,7 @@ use Rattle.promela_session.specs.declared.ends.End.{End}
 use Rattle.promela_session.specs.declared.ends.Cause.{Cause}
 use Rattle.promela_session.specs.declared.ends.Cause.TheVariants as cause
 use Rattle.promela_machine.specs.Machine.{Rules}
-use Rattle.promela_session.specs.Session.{final_cause}
+use Rattle.session.specs.Ending.{final_cause}
 use Rattle.promela_session.specs.Events.{Part, record_line}
 use Rattle.promela_session.specs.Devices.{is_cut_short}
 use Rattle.pml_play.specs.Run.{Leg, IsPath, last_state, IsLast, no_move, at_limit, at_fault, at_question, HasRun}

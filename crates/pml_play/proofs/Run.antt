@@ -19,7 +19,8 @@ use Rattle.profile.specs.Characters.{is_digit}
 use Rattle.promela_session.specs.Lines.{number_of}
 use Rattle.session.specs.Answers.{IsPickUpTo}
 use Rattle.promela_machine.specs.Machine.{Rules, Outcome, Goes, Faults}
-use Rattle.promela_session.specs.Session.{ask_for_move, place_of_move, select_move, finished, stepped, answered, story, transcript, final_cause}
+use Rattle.promela_session.specs.Session.{ask_for_move, place_of_move, select_move, finished, stepped, answered, story, transcript}
+use Rattle.session.specs.Ending.{final_cause}
 use Rattle.session.proofs.Parts.{recorded-append}
 use Rattle.session.proofs.Replay.{Silent, ask_silent, ask_range, picked_is_there, chosen, recorded_chosen}
 use Rattle.session.proofs.Turns.{story_none, story_limit, story_some, answer_part}

@@ -7,7 +7,7 @@ use Rattle.promela_session.specs.declared.ends.Cause.{Cause}
 use Rattle.promela_session.specs.declared.ends.Cause.TheVariants as cause
 use Rattle.promela_session.specs.Events.{recorded, Part, record_line}
 use Rattle.promela_machine.specs.Machine.{Rules, Goes, Faults}
-use Rattle.promela_session.specs.Session.{final_cause}
+use Rattle.session.specs.Ending.{final_cause}
 use Rattle.promela_session.specs.Devices.{is_cut_short}
 use Rattle.promela_session.specs.declared.ends.Options.{Options}
 use Rattle.promela_run.specs.World.{Running}

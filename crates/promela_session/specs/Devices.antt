@@ -1,12 +1,12 @@
 -- How what the devices hold stands to what a session does; a run that is played again on its own record, and a session whose choices are
 -- converted to the second version.
 -- Hold it against docs/FORMATS.md, 'Exit statuses' and 'Choices'.
-use Rattle.std.specs.Prelude.{◌≡◌, ℕ, ◌+◌, ◌<◌, List, [], ◌∷◌, ◌++◌, length, take, nat_le, Bool, true, false, not, filter, if◌then◌else◌}
+use Rattle.std.specs.Prelude.{◌≡◌, ℕ, ◌+◌, ◌<◌, List, [], ◌∷◌, ◌++◌, length, take, nat_le, Bool, true, false, not, ◌||◌, nat_eq, filter, if◌then◌else◌}
 use Rattle.std.specs.List.{flat_map, list_all, list_any}
 use Rattle.devices.specs.Holdings.{Holdings, FailureCounts, Moved, Gave, SourceFails, OutFails, RecordFails}
 use Rattle.promela_session.specs.declared.ends.Broken.{Broken}
 use Rattle.promela_session.specs.declared.ends.Broken.TheVariants as broken
-use Rattle.promela_session.specs.Events.{Event, Purpose, Put, Told, Corrected, Recorded, is_ask, output, front, recorded, steps_in, Part, header_line}
+use Rattle.promela_session.specs.Events.{Event, Purpose, Put, Told, Corrected, Recorded, is_ask, output, front, recorded, steps_in, Part, header_line, status_of}
 use Rattle.promela_session.specs.Session.{end_of}
 use Rattle.profile.specs.declared.TheConstants.{LINE_BYTES}
 use Rattle.promela_session.specs.declared.form.Stream.{Stream}
@@ -19,33 +19,21 @@ abbrev pub is_readable : Event → Bool
 is_readable (Recorded line placed) = nat_le (length line) (LINE_BYTES + 1)
 is_readable _ = true
 
--- each line that is recorded can be read as a choice
-abbrev pub AreReadable : List Event → Type 0
-AreReadable events = list_all is_readable events ≡ true
-
 -- what the devices hold and the count of steps are where these events leave them, and what is recorded can be read as choices
 pub record MovedBy (before after : Holdings) (steps steps' : ℕ) (done : List Event) : Type 0 where
   pub moved : Moved before after (front done) (output done) (recorded done)
   pub count : steps' ≡ steps + steps_in done
-  pub readable : AreReadable done
-
--- a piece of output was written in part: these events are done of those
-abbrev pub PutsPart : List Event → List Event → Type 0
-PutsPart done all = (before : List Event) × (purpose : Purpose) × (piece : List ℕ) × (n : ℕ) × (more : List Event) × (n < length piece)
-    × (done ≡ before ++ Put purpose (take n piece) ∷ []) × (all ≡ before ++ Put purpose piece ∷ more)
-
--- a line of the record was written in part
-abbrev pub KeepsPart : List Event → List Event → Type 0
-KeepsPart done all = (before : List Event) × (line placed : List ℕ) × (n : ℕ) × (more : List Event) × (n < length line)
-    × (done ≡ before ++ Recorded (take n line) placed ∷ []) × (all ≡ before ++ Recorded line placed ∷ more)
+  pub readable : list_all is_readable done ≡ true
 
 -- The events that were done are a beginning of these. The first that is not wholly done is by the device that broke;
 -- a piece or a record's line may be done in part.
 abbrev pub Begins : Broken → List Event → List Event → Type 0
 Begins broken.Memory done all = (more : List Event) × (all ≡ done ++ more)
 Begins broken.Source done all = (event : Event) × (more : List Event) × (is_ask event ≡ true) × (all ≡ done ++ event ∷ more)
-Begins broken.Out done all = PutsPart done all
-Begins broken.Record done all = KeepsPart done all
+Begins broken.Out done all = (before : List Event) × (purpose : Purpose) × (piece : List ℕ) × (n : ℕ) × (more : List Event) × (n < length piece)
+    × (done ≡ before ++ Put purpose (take n piece) ∷ []) × (all ≡ before ++ Put purpose piece ∷ more)
+Begins broken.Record done all = (before : List Event) × (line placed : List ℕ) × (n : ℕ) × (more : List Event) × (n < length line)
+    × (done ≡ before ++ Recorded (take n line) placed ∷ []) × (all ≡ before ++ Recorded line placed ∷ more)
 
 module _ {T : Type 0} (before after : Holdings) (steps steps' : ℕ) where
   -- this part was done whole, with this outcome
@@ -97,15 +85,6 @@ is_no_correction _ = true
 abbrev pub without_corrections : List Event → List Event
 without_corrections events = filter is_no_correction events
 
--- causes of a run that its choices did not cut short
-abbrev pub is_complete : Cause → Bool
-is_complete cause.Valid = true
-is_complete cause.Invalid = true
-is_complete (cause.Fault f) = true
-is_complete (cause.Refused r line) = true
-is_complete cause.StepLimit = true
-is_complete _ = false
-
 -- causes of a run that its choices cut short at a question
 abbrev pub is_cut_short : Cause → Bool
 is_cut_short cause.Quit = true
@@ -114,6 +93,10 @@ is_cut_short cause.LineTooLong = true
 is_cut_short cause.BadChoices = true
 is_cut_short cause.Misfit = true
 is_cut_short _ = false
+
+-- causes of a run that neither its choices cut short nor a device or memory broke off
+abbrev pub is_complete : Cause → Bool
+is_complete c = not (is_cut_short c || nat_eq (status_of c) 6)
 
 -- The second run ends as the first, with the same record, reads just that record, and writes what the first wrote but for its corrections.
 pub record IsSameRun (run again : Part End) : Type 0 where
@@ -151,13 +134,9 @@ converted part choices =
     let run = part choices in
     record { events = Put Told header_line ∷ converted_events run.events; value = run.value; stream = run.stream; left = run.left }
 
--- the choices of a run in the second version, without their first line
-abbrev pub placed_lines : List Event → List ℕ
-placed_lines events = output (converted_events events)
-
--- and with it
+-- the choices of a run in the second version
 abbrev pub second : List Event → List ℕ
-second events = header_line ++ placed_lines events
+second events = header_line ++ output (converted_events events)
 
 -- ---- converted choices say what the record says
 

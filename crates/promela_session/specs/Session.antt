@@ -1,8 +1,7 @@
 -- The session of a machine: what it does on these choices, and how it ends.
 -- Hold it against docs/FORMATS.md.
-use Rattle.std.specs.Prelude.{ℕ, List, Bool, Option, ◌+◌, ◌-◌, [], ◌∷◌, ◌++◌, length, true, false, if◌then◌else◌, Some, None, slice_index_or, unwrap_or, option_map}
+use Rattle.std.specs.Prelude.{ℕ, List, Bool, Option, ◌+◌, ◌-◌, [], ◌∷◌, ◌++◌, length, false, if◌then◌else◌, Some, None, slice_index_or, unwrap_or, option_map}
 use Rattle.diagnostics.specs.declared.fault.Fault.{Fault}
-use Rattle.diagnostics.specs.declared.stop.Stop.{Stop}
 use Prim.Native.Nat.{zero, suc}
 use Rattle.std.specs.List.{slice_get}
 use Rattle.profile.specs.declared.TheConstants.{BAD_LINES, LINE_BYTES}
@@ -15,7 +14,7 @@ use Rattle.promela_session.specs.declared.line.LineEnd.{LineEnd}
 use Rattle.promela_session.specs.declared.line.LineEnd.TheVariants.{Last, TooLong}
 use Rattle.promela_session.specs.declared.choice.Answer.{Answer}
 use Rattle.promela_session.specs.declared.choice.Answer.TheVariants as answer
-use Rattle.promela_machine.specs.Machine.{Rules, Outcome, Goes, Faults, Stopped}
+use Rattle.promela_machine.specs.Machine.{Rules, Outcome, Goes, Faults}
 use Rattle.promela_session.specs.Events.{Put, Told, Corrected, Recorded, Stepped, asks, Part, preceded, followed, list_from, prompt, bad_line, noted, placed_line, last_line, step_line, fault_line, refusal_line, status_of}
 use Rattle.promela_session.specs.Lines.{line_within, read_of, saw_end, reply_in, is_header}
 use Rattle.promela_session.specs.declared.form.Stream.{Stream}
@@ -117,19 +116,11 @@ end_of c steps = record { status = status_of c; steps = steps; cause = c }
 abbrev pub stopped : Cause → ℕ → Stream → List ℕ → Part End
 stopped c steps stream left = preceded (Put Told (last_line c steps) ∷ []) (only_this (end_of c steps) stream left)
 
--- where there is no move, the end is a valid one or not
-abbrev pub final_cause : Bool → Cause
-final_cause true = cause.Valid
-final_cause false = cause.Invalid
-
--- the lines of such an end
-abbrev pub final_lines : Bool → List ℕ → ℕ → List ℕ
-final_lines true stuck steps = last_line cause.Valid steps
-final_lines false stuck steps = last_line cause.Invalid steps ++ stuck
-
--- there is no move
+-- there is no move: the end is a valid one, or it is not, and then what is stuck is told
 abbrev pub finished : Bool → List ℕ → ℕ → Stream → List ℕ → Part End
-finished valid stuck steps stream left = preceded (Put Told (final_lines valid stuck steps) ∷ []) (only_this (end_of (final_cause valid) steps) stream left)
+finished valid stuck steps stream left =
+    preceded (Put Told (if valid then last_line cause.Valid steps else last_line cause.Invalid steps ++ stuck) ∷ [])
+    (only_this (end_of (if valid then cause.Valid else cause.Invalid) steps) stream left)
 
 module _ {S M : Type 0} (rules : Rules S M) (options : Options) (s : S) where
   -- the text of a step: its line, what it printed, the value lines

@@ -22,7 +22,8 @@ use Rattle.promela_session.specs.Events.{Event, Put, Told, Asked, AskedEnd, Reco
 use Rattle.profile.specs.declared.TheConstants.{BAD_LINES, LINE_BYTES}
 use Rattle.promela_machine.specs.Machine.{Rules, Outcome, Goes, Faults}
 use Rattle.promela_session.specs.Session.{kept, question, choose, place_of_move, select_move, stopped, stepped, answered, at_moves, story, transcript, transcript_noting, step_text, end_of}
-use Rattle.promela_session.specs.Devices.{is_readable, AreReadable, MovedBy, Begins, Does, Breaks, CountsBroken, Ends, IsBrokenOff, IsConvertedBy, converted_event, converted_events, converted}
+use Rattle.promela_session.specs.Devices.{is_readable, MovedBy, Begins, Does, Breaks, CountsBroken, Ends, IsBrokenOff, IsConvertedBy, converted_event, converted_events, converted}
+use Rattle.session.specs.Ending.{AreReadable}
 use Rattle.session.specs.Writes.{Runs}
 use Rattle.session.proofs.Parts.{records, record_breaks, Leads-does, Leads-breaks}
 use Rattle.session.proofs.Replay.{ask_silent, silent_told}

@@ -9,7 +9,8 @@ use Rattle.promela_session.specs.declared.ends.End.{End}
 use Rattle.promela_session.specs.declared.ends.Broken.{Broken}
 use Rattle.promela_session.specs.declared.ends.Broken.TheVariants as broken
 use Rattle.promela_session.specs.Events.{Event, Put, Told, Stepped, output, front, recorded, steps_in, step_of, Part, preceded}
-use Rattle.promela_session.specs.Devices.{AreReadable, MovedBy, Breaks, CountsBroken}
+use Rattle.promela_session.specs.Devices.{MovedBy, Breaks, CountsBroken}
+use Rattle.session.specs.Ending.{AreReadable}
 use Rattle.session.specs.Writes.{Leads, Continues, story_after}
 use Rattle.session.specs.declared.course.Course.{Course}
 use Rattle.session.specs.Gathered.{told_steps, begins_from, later, AddsText, CutsTexts, AreGathered, behind, Waits, BreaksBare, Halts, GoesFurther, Advances, TurnsOn}

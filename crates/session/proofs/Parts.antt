@@ -11,7 +11,8 @@ use Rattle.promela_session.specs.declared.ends.Broken.{Broken}
 use Rattle.promela_session.specs.declared.ends.Broken.TheVariants as broken
 use Rattle.promela_session.specs.Events.{Event, Purpose, Put, Recorded, asks, output, front, recorded, steps_in, output_of, bytes_of, record_of, step_of, Part, preceded, followed}
 use Rattle.profile.specs.declared.TheConstants.{LINE_BYTES}
-use Rattle.promela_session.specs.Devices.{is_readable, AreReadable, MovedBy, Begins, Does, Breaks}
+use Rattle.promela_session.specs.Devices.{is_readable, MovedBy, Begins, Does, Breaks}
+use Rattle.session.specs.Ending.{AreReadable}
 use Rattle.session.specs.Writes.{Leads}
 use Rattle.promela_session.specs.Session.{only_this}
 use Rattle.session.specs.Reads.{AsksPart, AsksBroken}

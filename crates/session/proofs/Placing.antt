@@ -16,7 +16,8 @@ use Rattle.promela_session.specs.declared.form.Stream.{Stream}
 use Rattle.promela_session.specs.declared.form.Stream.TheVariants.{Unread, Known, Over}
 use Rattle.promela_session.specs.declared.form.Version.{Version}
 use Rattle.promela_session.specs.declared.form.Version.TheVariants.{First, Second}
-use Rattle.promela_session.specs.Devices.{converted_event, converted_events, placed_lines, second, IsSameReading, StandsForRecord}
+use Rattle.promela_session.specs.Devices.{converted_event, converted_events, second, IsSameReading, StandsForRecord}
+use Rattle.session.specs.Ending.{placed_lines}
 use Rattle.session.specs.Converting.{fits_line, CanBeConverted}
 use Rattle.promela_session.specs.Events.{Event, Put, Told, Asked, AskedEnd, Recorded, Stepped, asks, output, front, recorded, Part, preceded, followed, record_line, placed_line, header_line, list_from, prompt, is_ask}
 use Rattle.profile.specs.declared.TheConstants.{LINE_BYTES, BAD_LINES}

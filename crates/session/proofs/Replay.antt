@@ -19,7 +19,8 @@ use Rattle.promela_session.specs.Lines.{Line, line_within, read_of, saw_end, rep
 use Rattle.session.specs.Answers.{IsPickUpTo}
 use Rattle.promela_machine.specs.Machine.{Rules, Outcome, Goes, Faults}
 use Rattle.promela_session.specs.Session.{one_line, next_line, one_reply, begins_second, stream_behind, reply_at, ask_for_move, after_line, only_this, kept, choose, place_of_move, select_move, stopped, finished, stepped, answered, story, step_text}
-use Rattle.promela_session.specs.Devices.{converted_events, placed_lines, without_corrections, is_complete, IsSameRun}
+use Rattle.promela_session.specs.Devices.{converted_events, without_corrections, is_complete, IsSameRun}
+use Rattle.session.specs.Ending.{placed_lines}
 use Rattle.session.specs.Converting.{told_events}
 use Rattle.session.proofs.Parts.{front-append, output-append, recorded-append, front-asks, output-asks, recorded-asks}
 use Rattle.session.proofs.Records.{IsPlain, record_asked}

@@ -2,7 +2,8 @@
 ghost use Rattle.std.specs.Prelude.{◌≡◌, ◌<◌, ◌≤◌, ◌+◌, ◌^◌, List, ℕ, length, IfOk, IfNone, IfSome, ◌≢◌};
 ghost use Rattle.std.specs.List.{Contains};
 ghost use Rattle.session.specs.Answers.{IsPickUpTo};
-ghost use Rattle.promela_session.specs.Session.{select_move, final_lines, final_cause, end_of, transcript, transcript_noting};
+ghost use Rattle.promela_session.specs.Session.{select_move, end_of, transcript, transcript_noting};
+ghost use Rattle.session.specs.Ending.{final_lines, final_cause};
 ghost use Rattle.session.specs.Answers.{cause_of};
 ghost use Rattle.session.specs.Takes.{choice_at};
 ghost use Rattle.session.specs.Writes.{PlaysQuestion, CountsAll, Writes, Acts, Turns, Runs, IsOwnEnd};

@@ -5,7 +5,8 @@ ghost use Rattle.promela_session.specs.declared.ends.Broken.TheVariants.{Memory}
 ghost use Rattle.session.specs.Writes.{CountsAll, Writes, kept_text, RecordsAnswer, Composes, Steps};
 ghost use Rattle.profile.specs.declared.TheConstants.{LINE_BYTES};
 ghost use Rattle.session.specs.Answers.{IsPickUpTo};
-ghost use Rattle.promela_session.specs.Session.{place_of_move, final_lines};
+ghost use Rattle.promela_session.specs.Session.{place_of_move};
+ghost use Rattle.session.specs.Ending.{final_lines};
 ghost use Rattle.promela_session.specs.Events.{list_from, prompt, last_line, noted};
 
 use crate::draft::{

@@ -1,6 +1,7 @@
 use Rattle.std.proofs.Common.{arith}
 use Rattle.std.proofs.lemmas.Result.{err_from_is_err_and}
-use Rattle.promela_session.specs.Session.{final_cause, end_of}
+use Rattle.promela_session.specs.Session.{end_of}
+use Rattle.session.specs.Ending.{final_cause}
 use Rattle.promela_session.specs.declared.ends.Cause.TheVariants as cause
 use Rattle.session.proofs.Parts.{Leads-does, Leads-breaks}
 use Rattle.session.proofs.Turns.{to_finish, to_limit, write_breaks, last_does, act_turn}
