@@ -41,7 +41,7 @@ pub rejected_converts : (text : List ℕ) (options : Options) (rejection : Rejec
 rejected_converts text options Memory a is = record {
   whole = λ own. absurd (own refl);
   quiet = λ own. refl;
-  broken = λ six. let c = has_conversion text options in record { part = c.0; is_conversion = c.1; broken = (broken.Memory, refl, memory_breaks c.0 Moved-nil, refl) };
+  broken = λ six. let c = has_conversion text options in (c.0, c.1, broken.Memory, refl, memory_breaks c.0 Moved-nil, refl);
   is_end = refl;
 }
 rejected_converts text options (Refused refusal line) a is = record {
@@ -75,6 +75,6 @@ model_converts text options state is end source source' out out' s s' o o' whole
     stands = stands own;
   };
   quiet = λ own. rw (still_source own, still_out own) refl;
-  broken = λ six. record { part = converted (transcript rules options state); is_conversion = of_its_model is; broken = broken six };
+  broken = λ six. (converted (transcript rules options state), of_its_model is, broken six);
   is_end = told;
 }

@@ -124,11 +124,11 @@ expanded_or : (text : List ℕ) → ((us : List Word) × AreExpanded text us) �
 expanded_or text = by_tokens (tokens_or text)
   where
     by_depth : (ts : List Word) → AreTokens text ts → (us : List Word) → Expands ts us → IsTooDeep us ⊎ (IsTooDeep us → ⊥) → ((vs : List Word) × AreExpanded text vs) ⊎ Refusals text
-    by_depth ts are us e (inl deep) = inr (r.TooDeep, 1, too_deep (record { tokens = ts; are_tokens = are; deep = record { given = us; expands = e; deep = deep }; on_line = first_line text }))
+    by_depth ts are us e (inl deep) = inr (r.TooDeep, 1, too_deep are (record { given = us; expands = e; deep = deep }) (first_line text))
     by_depth ts are us e (inr shallow) = inl (us, record { tokens = ts; are_tokens = are; is_expanded = record { expands = e; shallow = shallow } })
 
     by_result : (ts : List Word) → AreTokens text ts → (o : Option (List Word)) → expansion ts ≡ o → ((vs : List Word) × AreExpanded text vs) ⊎ Refusals text
-    by_result ts are None e = inr (r.Inline, 0, inline (record { tokens = ts; are_tokens = are; none = λ us f. no_result (sym e ∙ f) }))
+    by_result ts are None e = inr (r.Inline, 0, inline are (λ us f. no_result (sym e ∙ f)))
     by_result ts are (Some us) e = by_depth ts are us e (deep_or_not us)
 
     by_tokens : ((ts : List Word) × AreTokens text ts) ⊎ Refusals text → ((vs : List Word) × AreExpanded text vs) ⊎ Refusals text
@@ -149,7 +149,7 @@ spelled_or text = by_expanded (expanded_or text)
   where
     by_tree : (us : List Word) → AreExpanded text us → ((t : Tree) × Spells t us) ⊎ ((t : Tree) → Spells t us → ⊥) → ((t : Tree) × IsSpelled text t) ⊎ Refusals text
     by_tree us are (inl h) = inl (h.0, record { expanded = us; are_expanded = are; spells = h.1 })
-    by_tree us are (inr none) = inr (r.Syntax, 1, unspelled (record { expanded = us; are_expanded = are; none = none; on_line = first_line text }))
+    by_tree us are (inr none) = inr (r.Syntax, 1, unspelled are none (first_line text))
 
     by_expanded : ((us : List Word) × AreExpanded text us) ⊎ Refusals text → ((t : Tree) × IsSpelled text t) ⊎ Refusals text
     by_expanded (inl h) = by_tree h.0 h.1 (tree_or h.0)
@@ -175,7 +175,7 @@ module _ (text : List ℕ) (options : Options) where
 
   of_judged : (t : Tree) → IsSpelled text t → IsFit t ⊎ ((x : Refusal) × IsLeast t x) → Has
   of_judged t is (inl fits) = of_state t is fits
-  of_judged t is (inr h) = (refused h.0 0 Unread, of_refusal (unfit (record { tree = t; is_spelled = is; least = h.1 })))
+  of_judged t is (inr h) = (refused h.0 0 Unread, of_refusal (unfit is h.1))
 
   of_spelled : ((t : Tree) × IsSpelled text t) ⊎ Refusals text → Has
   of_spelled (inl h) = of_judged h.0 h.1 (judge h.0)

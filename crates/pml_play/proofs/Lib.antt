@@ -1,3 +1,4 @@
+mod Refusing
 pub mod Outcomes
 pub mod Playing
 pub mod Each

@@ -26,7 +26,8 @@ use Rattle.promela_run.specs.State.{State, first_state}
 use Rattle.promela_run.specs.World.{Running, first, rules}
 use Rattle.promela_session.specs.Devices.{CanBeReplayed}
 use Rattle.session.proofs.CutShort.{can_be_replayed, refused_can_be_replayed}
-use Rattle.pml_play.specs.Transcript.{AreExpanded, IsSpelled, IsModel, HasNoExpansion, ExpandsTooDeep, IsUnspelled, IsRefused, too_long, lexical, left_out, inline, too_deep, unspelled, unfit, IsTranscript, of_refusal, of_model}
+use Rattle.pml_play.specs.Transcript.{AreExpanded, IsSpelled, IsModel, IsRefused, IsTranscript, of_refusal, of_model}
+use Rattle.pml_play.proofs.Refusing.{HasNoExpansion, ExpandsTooDeep, IsUnspelled, Refuses, too_long, lexical, left_out, inline, too_deep, unspelled, unfit, reason}
 use Rattle.pml_play.specs.Outcomes.{HasLine}
 use Rattle.promela_session.specs.declared.form.Stream.TheVariants.{Unread}
 
@@ -108,59 +109,62 @@ module _ {text : List ℕ} where
   not_unspelled : {t : Tree} {line : ℕ} → IsSpelled text t → IsUnspelled text line → ⊥
   not_unspelled {t} a u = u.none t (subst (λ (l : List Word). Spells t l) (same_expansion a.are_expanded u.are_expanded) a.spells)
 
+  one_reason : {a b : Refusal} {m n : ℕ} → Refuses text a m → Refuses text b n → a ≡ b
+  one_reason (too_long h) (too_long g) = refl
+  one_reason (too_long h) (lexical g) = absurd (long_uncut h g)
+  one_reason (too_long h) (left_out g) = absurd (long_left_out h g)
+  one_reason (too_long h) (inline g) = absurd (not_long g.are_tokens h)
+  one_reason (too_long h) (too_deep g) = absurd (not_long g.are_tokens h)
+  one_reason (too_long h) (unspelled g) = absurd (not_long g.are_expanded.are_tokens h)
+  one_reason (too_long h) (unfit g) = absurd (not_long g.is_spelled.are_expanded.are_tokens h)
+  one_reason (lexical h) (too_long g) = absurd (long_uncut g h)
+  one_reason (lexical h) (lexical g) = refl
+  one_reason (lexical h) (left_out g) = absurd (h.never g.tokens g.are_cut)
+  one_reason (lexical h) (inline g) = absurd (not_uncut g.are_tokens h)
+  one_reason (lexical h) (too_deep g) = absurd (not_uncut g.are_tokens h)
+  one_reason (lexical h) (unspelled g) = absurd (not_uncut g.are_expanded.are_tokens h)
+  one_reason (lexical h) (unfit g) = absurd (not_uncut g.is_spelled.are_expanded.are_tokens h)
+  one_reason (left_out h) (too_long g) = absurd (long_left_out g h)
+  one_reason (left_out h) (lexical g) = absurd (g.never h.tokens h.are_cut)
+  one_reason (left_out h) (left_out g) = refl
+  one_reason (left_out h) (inline g) = absurd (not_left_out g.are_tokens h)
+  one_reason (left_out h) (too_deep g) = absurd (not_left_out g.are_tokens h)
+  one_reason (left_out h) (unspelled g) = absurd (not_left_out g.are_expanded.are_tokens h)
+  one_reason (left_out h) (unfit g) = absurd (not_left_out g.is_spelled.are_expanded.are_tokens h)
+  one_reason (inline h) (too_long g) = absurd (not_long h.are_tokens g)
+  one_reason (inline h) (lexical g) = absurd (not_uncut h.are_tokens g)
+  one_reason (inline h) (left_out g) = absurd (not_left_out h.are_tokens g)
+  one_reason (inline h) (inline g) = refl
+  one_reason (inline h) (too_deep g) = absurd (not_both g h)
+  one_reason (inline h) (unspelled g) = absurd (not_expanded g.are_expanded h)
+  one_reason (inline h) (unfit g) = absurd (not_expanded g.is_spelled.are_expanded h)
+  one_reason (too_deep h) (too_long g) = absurd (not_long h.are_tokens g)
+  one_reason (too_deep h) (lexical g) = absurd (not_uncut h.are_tokens g)
+  one_reason (too_deep h) (left_out g) = absurd (not_left_out h.are_tokens g)
+  one_reason (too_deep h) (inline g) = absurd (not_both h g)
+  one_reason (too_deep h) (too_deep g) = refl
+  one_reason (too_deep h) (unspelled g) = absurd (not_deep g.are_expanded h)
+  one_reason (too_deep h) (unfit g) = absurd (not_deep g.is_spelled.are_expanded h)
+  one_reason (unspelled h) (too_long g) = absurd (not_long h.are_expanded.are_tokens g)
+  one_reason (unspelled h) (lexical g) = absurd (not_uncut h.are_expanded.are_tokens g)
+  one_reason (unspelled h) (left_out g) = absurd (not_left_out h.are_expanded.are_tokens g)
+  one_reason (unspelled h) (inline g) = absurd (not_expanded h.are_expanded g)
+  one_reason (unspelled h) (too_deep g) = absurd (not_deep h.are_expanded g)
+  one_reason (unspelled h) (unspelled g) = refl
+  one_reason (unspelled h) (unfit g) = absurd (not_unspelled g.is_spelled h)
+  one_reason (unfit h) (too_long g) = absurd (not_long h.is_spelled.are_expanded.are_tokens g)
+  one_reason (unfit h) (lexical g) = absurd (not_uncut h.is_spelled.are_expanded.are_tokens g)
+  one_reason (unfit h) (left_out g) = absurd (not_left_out h.is_spelled.are_expanded.are_tokens g)
+  one_reason (unfit h) (inline g) = absurd (not_expanded h.is_spelled.are_expanded g)
+  one_reason (unfit h) (too_deep g) = absurd (not_deep h.is_spelled.are_expanded g)
+  one_reason (unfit h) (unspelled g) = absurd (not_unspelled h.is_spelled g)
+  one_reason {a} {b} (unfit h) (unfit g) = one_least g.tree a b (subst (λ (t : Tree). IsLeast t a) (same_tree h.is_spelled g.is_spelled) h.least) g.least
+
   pub one_refusal : {a b : Refusal} {m n : ℕ} → IsRefused text a m → IsRefused text b n → a ≡ b
-  one_refusal (too_long h) (too_long g) = refl
-  one_refusal (too_long h) (lexical g) = absurd (long_uncut h g)
-  one_refusal (too_long h) (left_out g) = absurd (long_left_out h g)
-  one_refusal (too_long h) (inline g) = absurd (not_long g.are_tokens h)
-  one_refusal (too_long h) (too_deep g) = absurd (not_long g.are_tokens h)
-  one_refusal (too_long h) (unspelled g) = absurd (not_long g.are_expanded.are_tokens h)
-  one_refusal (too_long h) (unfit g) = absurd (not_long g.is_spelled.are_expanded.are_tokens h)
-  one_refusal (lexical h) (too_long g) = absurd (long_uncut g h)
-  one_refusal (lexical h) (lexical g) = refl
-  one_refusal (lexical h) (left_out g) = absurd (h.never g.tokens g.are_cut)
-  one_refusal (lexical h) (inline g) = absurd (not_uncut g.are_tokens h)
-  one_refusal (lexical h) (too_deep g) = absurd (not_uncut g.are_tokens h)
-  one_refusal (lexical h) (unspelled g) = absurd (not_uncut g.are_expanded.are_tokens h)
-  one_refusal (lexical h) (unfit g) = absurd (not_uncut g.is_spelled.are_expanded.are_tokens h)
-  one_refusal (left_out h) (too_long g) = absurd (long_left_out g h)
-  one_refusal (left_out h) (lexical g) = absurd (g.never h.tokens h.are_cut)
-  one_refusal (left_out h) (left_out g) = refl
-  one_refusal (left_out h) (inline g) = absurd (not_left_out g.are_tokens h)
-  one_refusal (left_out h) (too_deep g) = absurd (not_left_out g.are_tokens h)
-  one_refusal (left_out h) (unspelled g) = absurd (not_left_out g.are_expanded.are_tokens h)
-  one_refusal (left_out h) (unfit g) = absurd (not_left_out g.is_spelled.are_expanded.are_tokens h)
-  one_refusal (inline h) (too_long g) = absurd (not_long h.are_tokens g)
-  one_refusal (inline h) (lexical g) = absurd (not_uncut h.are_tokens g)
-  one_refusal (inline h) (left_out g) = absurd (not_left_out h.are_tokens g)
-  one_refusal (inline h) (inline g) = refl
-  one_refusal (inline h) (too_deep g) = absurd (not_both g h)
-  one_refusal (inline h) (unspelled g) = absurd (not_expanded g.are_expanded h)
-  one_refusal (inline h) (unfit g) = absurd (not_expanded g.is_spelled.are_expanded h)
-  one_refusal (too_deep h) (too_long g) = absurd (not_long h.are_tokens g)
-  one_refusal (too_deep h) (lexical g) = absurd (not_uncut h.are_tokens g)
-  one_refusal (too_deep h) (left_out g) = absurd (not_left_out h.are_tokens g)
-  one_refusal (too_deep h) (inline g) = absurd (not_both h g)
-  one_refusal (too_deep h) (too_deep g) = refl
-  one_refusal (too_deep h) (unspelled g) = absurd (not_deep g.are_expanded h)
-  one_refusal (too_deep h) (unfit g) = absurd (not_deep g.is_spelled.are_expanded h)
-  one_refusal (unspelled h) (too_long g) = absurd (not_long h.are_expanded.are_tokens g)
-  one_refusal (unspelled h) (lexical g) = absurd (not_uncut h.are_expanded.are_tokens g)
-  one_refusal (unspelled h) (left_out g) = absurd (not_left_out h.are_expanded.are_tokens g)
-  one_refusal (unspelled h) (inline g) = absurd (not_expanded h.are_expanded g)
-  one_refusal (unspelled h) (too_deep g) = absurd (not_deep h.are_expanded g)
-  one_refusal (unspelled h) (unspelled g) = refl
-  one_refusal (unspelled h) (unfit g) = absurd (not_unspelled g.is_spelled h)
-  one_refusal (unfit h) (too_long g) = absurd (not_long h.is_spelled.are_expanded.are_tokens g)
-  one_refusal (unfit h) (lexical g) = absurd (not_uncut h.is_spelled.are_expanded.are_tokens g)
-  one_refusal (unfit h) (left_out g) = absurd (not_left_out h.is_spelled.are_expanded.are_tokens g)
-  one_refusal (unfit h) (inline g) = absurd (not_expanded h.is_spelled.are_expanded g)
-  one_refusal (unfit h) (too_deep g) = absurd (not_deep h.is_spelled.are_expanded g)
-  one_refusal (unfit h) (unspelled g) = absurd (not_unspelled h.is_spelled g)
-  one_refusal {a} {b} (unfit h) (unfit g) = one_least g.tree a b (subst (λ (t : Tree). IsLeast t a) (same_tree h.is_spelled g.is_spelled) h.least) g.least
+  one_refusal h g = one_reason (reason h) (reason g)
 
   -- a refused text has no tree that fits
-  no_fit : {a : Refusal} {m : ℕ} {t : Tree} → IsRefused text a m → IsSpelled text t → IsFit t → ⊥
+  no_fit : {a : Refusal} {m : ℕ} {t : Tree} → Refuses text a m → IsSpelled text t → IsFit t → ⊥
   no_fit (too_long h) is fits = not_long is.are_expanded.are_tokens h
   no_fit (lexical h) is fits = not_uncut is.are_expanded.are_tokens h
   no_fit (left_out h) is fits = not_left_out is.are_expanded.are_tokens h
@@ -170,7 +174,7 @@ module _ {text : List ℕ} where
   no_fit {a} {t = t} (unfit h) is fits = fit_has_none t a fits (subst (λ (t : Tree). IsLeast t a) (same_tree h.is_spelled is) h.least)
 
   pub no_model : {a : Refusal} {m : ℕ} {lossy : Bool} {model : Running} → IsRefused text a m → IsModel text lossy model → ⊥
-  no_model h m = no_fit h m.is_spelled m.fits
+  no_model h m = no_fit (reason h) m.is_spelled m.fits
 
   -- equal models begin alike
   same_begun : {t u : Tree} {p q : Program} {b c : State} → IsSpelled text t → IsSpelled text u → StandsModel t p → StandsModel u q → first_state p ≡ Ok b → first_state q ≡ Ok c → b ≡ c

@@ -13,7 +13,8 @@ use Rattle.promela_model.specs.declared.mark.Mark.{Mark}
 use Rattle.pml_program.specs.declared.program.Program.{Program}
 use Rattle.promela_grammar.specs.Models.{Spells}
 use Rattle.promela_refusals.specs.Judged.{AppliesTo}
-use Rattle.pml_play.specs.Transcript.{AreExpanded, IsSpelled, IsRefused, too_long, lexical, left_out, inline, too_deep, unspelled, unfit}
+use Rattle.pml_play.specs.Transcript.{AreExpanded, IsSpelled, IsRefused}
+use Rattle.pml_play.proofs.Refusing.{Refuses, too_long, lexical, left_out, inline, too_deep, unspelled, unfit, reason, refused_by}
 use Rattle.pml_play.specs.Plain.{ArePlain, SpellItself, SpellNothing, SayTheSame}
 
 -- none of these is asked of a tree
@@ -67,7 +68,7 @@ module _ {text : List ℕ} {ts : List Word} (plain : ArePlain text ts) where
   pub plain_tree : (tree : Tree) → SayTheSame (IsSpelled text tree) (SpellItself ts tree)
   plain_tree tree = (itself, is_spelled)
 
-  deep_of : {a : Refusal} {line : ℕ} → IsRefused text a line → a ≡ r.TooDeep → IsTooDeep ts × IsLine text line
+  deep_of : {a : Refusal} {line : ℕ} → Refuses text a line → a ≡ r.TooDeep → IsTooDeep ts × IsLine text line
   deep_of (too_long h) is = absurd cc
   deep_of (lexical h) is = absurd cc
   deep_of (left_out h) is = absurd cc
@@ -78,11 +79,11 @@ module _ {text : List ℕ} {ts : List Word} (plain : ArePlain text ts) where
 
   pub plain_too_deep : (line : ℕ) → SayTheSame (IsRefused text r.TooDeep line) (IsTooDeep ts × IsLine text line)
   plain_too_deep line = (
-    λ h. deep_of h refl,
-    λ h. too_deep (record { tokens = ts; are_tokens = plain.are_tokens; deep = record { given = ts; expands = own; deep = h.0 }; on_line = h.1 }),
+    λ h. deep_of (reason h) refl,
+    λ h. refused_by (too_deep (record { tokens = ts; are_tokens = plain.are_tokens; deep = record { given = ts; expands = own; deep = h.0 }; on_line = h.1 })),
   )
 
-  unspelled_of : {a : Refusal} {line : ℕ} → IsRefused text a line → a ≡ r.Syntax → SpellNothing ts × IsLine text line
+  unspelled_of : {a : Refusal} {line : ℕ} → Refuses text a line → a ≡ r.Syntax → SpellNothing ts × IsLine text line
   unspelled_of (too_long h) is = absurd cc
   unspelled_of (lexical h) is = absurd cc
   unspelled_of (left_out h) is = absurd cc
@@ -93,9 +94,9 @@ module _ {text : List ℕ} {ts : List Word} (plain : ArePlain text ts) where
   unspelled_of {a} (unfit h) is = absurd (never_syntax a _ _ h.least.applies.applies is)
 
   pub plain_syntax : (line : ℕ) → SayTheSame (IsRefused text r.Syntax line) (SpellNothing ts × IsLine text line)
-  plain_syntax line = (λ h. unspelled_of h refl, λ h. unspelled (record { expanded = ts; are_expanded = own_expanded h.0.shallow; none = h.0.none; on_line = h.1 }))
+  plain_syntax line = (λ h. unspelled_of (reason h) refl, λ h. refused_by (unspelled (record { expanded = ts; are_expanded = own_expanded h.0.shallow; none = h.0.none; on_line = h.1 })))
 
-  right : {a : Refusal} {line : ℕ} → IsRefused text a line → a ≡ r.Inline → ⊥
+  right : {a : Refusal} {line : ℕ} → Refuses text a line → a ≡ r.Inline → ⊥
   right (too_long h) is = cc
   right (lexical h) is = cc
   right (left_out h) is = cc
@@ -105,4 +106,4 @@ module _ {text : List ℕ} {ts : List Word} (plain : ArePlain text ts) where
   right {a} (unfit h) is = never_inline a _ _ h.least.applies.applies is
 
   pub plain_right : (line : ℕ) → IsRefused text r.Inline line → ⊥
-  plain_right line h = right h refl
+  plain_right line h = right (reason h) refl

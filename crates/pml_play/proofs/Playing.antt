@@ -59,18 +59,18 @@ expanded_lines text us a = kept (λ w. IsOnLine (line_behind text) w.line) a.tok
 pub rejected_inline : (text : List ℕ) (ts : List Word) (fault : InlineError) → AreTokens text ts → inline_least ts fault
     → ((most : ℕ) → AreOnLines most ts → IsFaultOnLine most fault) → IsRejected text (of_inline fault)
 rejected_inline text ts inlines.Memory are least line = tt
-rejected_inline text ts (inlines.Inline misuse) are least line = inline (record { tokens = ts; are_tokens = are; none = least })
-rejected_inline text ts (inlines.TooDeep at limit) are least line = too_deep (record { tokens = ts; are_tokens = are; deep = least; on_line = line (line_behind text) (token_lines text ts are.are_cut) })
+rejected_inline text ts (inlines.Inline misuse) are least line = inline are least
+rejected_inline text ts (inlines.TooDeep at limit) are least line = too_deep are least (line (line_behind text) (token_lines text ts are.are_cut))
 
 pub rejected_syntax : (text : List ℕ) (us : List Word) (fault : SyntaxError) → AreExpanded text us → ((t : Tree) → Spells t us → Answers t (Err fault))
     → ((most : ℕ) → 1 ≤ most → All (λ w. IsOnLine most w.line) us → (at : ℕ) → ◌≡◌ {A = Result Tree SyntaxError} (Err fault) (Err (syntax.Syntax at)) → IsOnLine most at) → IsRejected text (of_syntax fault)
 rejected_syntax text us syntax.Memory are none line = tt
 rejected_syntax text us (syntax.Syntax at) are none line =
-    unspelled (record { expanded = us; are_expanded = are; none = none; on_line = line (line_behind text) (omega arith) (expanded_lines text us are) at refl })
+    unspelled are none (line (line_behind text) (omega arith) (expanded_lines text us are) at refl)
 
 pub rejected_check : (text : List ℕ) (t : Tree) (fault : CheckFault) → IsSpelled text t → IsRefused t fault → IsRejected text (of_check fault)
 rejected_check text t check.Memory is h = tt
-rejected_check text t (check.Refused r) is h = unfit (record { tree = t; is_spelled = is; least = h })
+rejected_check text t (check.Refused r) is h = unfit is h
 
 -- what the check answers is the model that the tree stands for
 pub is_ready : (text : List ℕ) (t : Tree) (p : Program) → IsSpelled text t → IsFit t → StandsModel t p → IsReady text p

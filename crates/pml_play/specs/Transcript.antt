@@ -36,7 +36,7 @@ pub record IsSpelled (text : List ℕ) (tree : Tree) : Type 0 where
   pub are_expanded : AreExpanded text expanded
   pub spells : Spells tree expanded
 
--- The text has a tree that fits all conditions, and the model that it stands for begins in this state, where messages to full channels are lost or not.
+-- The text has a tree to which no refusal applies, and the model that it stands for begins in this state, where messages to full channels are lost or not.
 pub record IsModel (text : List ℕ) (lossy : Bool) (state : Running) : Type 0 where
   pub tree : Tree
   pub is_spelled : IsSpelled text tree
@@ -47,41 +47,20 @@ pub record IsModel (text : List ℕ) (lossy : Bool) (state : Running) : Type 0 w
   pub starts : first_state program ≡ Ok begun
   pub is : state ≡ first begun lossy
 
--- The text has tokens, and nothing comes of them.
-pub record HasNoExpansion (text : List ℕ) : Type 0 where
-  pub tokens : List Word
-  pub are_tokens : AreTokens text tokens
-  pub none : (expanded : List Word) → Expands tokens expanded → ⊥
-
--- What comes of the text's tokens is too deep.
-pub record ExpandsTooDeep (text : List ℕ) (line : ℕ) : Type 0 where
-  pub tokens : List Word
-  pub are_tokens : AreTokens text tokens
-  pub deep : GoesTooDeep tokens
-  pub on_line : IsLine text line
-
--- Something comes of the text's tokens, and no tree spells it.
-pub record IsUnspelled (text : List ℕ) (line : ℕ) : Type 0 where
-  pub expanded : List Word
-  pub are_expanded : AreExpanded text expanded
-  pub none : (tree : Tree) → Spells tree expanded → ⊥
-  pub on_line : IsLine text line
-
--- The text has a tree, and of the conditions that apply to it this is the least.
-pub record IsUnfit (text : List ℕ) (refusal : Refusal) : Type 0 where
-  pub tree : Tree
-  pub is_spelled : IsSpelled text tree
-  pub least : IsLeast tree refusal
-
 -- The text is refused so, and the refusal has this line: one of the text's, or 0 where it has none.
 pub data IsRefused (text : List ℕ) : Refusal → ℕ → Type 0 where
   too_long : MOST_TEXT_BYTES < length text → IsRefused text r.TextTooLong 0
   lexical : {line : ℕ} → CannotBeCut text line → IsRefused text r.Lexical line
   left_out : {line : ℕ} → HoldsLeftOut text line → IsRefused text r.LeftOut line
-  inline : HasNoExpansion text → IsRefused text r.Inline 0
-  too_deep : {line : ℕ} → ExpandsTooDeep text line → IsRefused text r.TooDeep line
-  unspelled : {line : ℕ} → IsUnspelled text line → IsRefused text r.Syntax line
-  unfit : {refusal : Refusal} → IsUnfit text refusal → IsRefused text refusal 0
+  -- the text has tokens, and nothing comes of them
+  inline : {tokens : List Word} → AreTokens text tokens → ((expanded : List Word) → Expands tokens expanded → ⊥) → IsRefused text r.Inline 0
+  -- what comes of the text's tokens is too deep
+  too_deep : {tokens : List Word} {line : ℕ} → AreTokens text tokens → GoesTooDeep tokens → IsLine text line → IsRefused text r.TooDeep line
+  -- something comes of the text's tokens, and no tree spells it
+  unspelled : {expanded : List Word} {line : ℕ} → AreExpanded text expanded → ((tree : Tree) → Spells tree expanded → ⊥) → IsLine text line
+      → IsRefused text r.Syntax line
+  -- the text has a tree, and of the refusals that apply to it this is the least
+  unfit : {tree : Tree} {refusal : Refusal} → IsSpelled text tree → IsLeast tree refusal → IsRefused text refusal 0
 
 -- The session over a text: one line where it is refused, and else that of the model that it stands for.
 pub data IsTranscript (text : List ℕ) (options : Options) : (List ℕ → Part End) → Type 0 where
@@ -121,17 +100,11 @@ pub record ConvertsWhole (text : List ℕ) (options : Options) (before after : H
   pub is_transcript : IsTranscript text options run
   pub stands : IsConvertedBy before.source after.source run
 
--- a device or memory broke the conversion off, behind a beginning of its events
-pub record ConvertsBroken (text : List ℕ) (options : Options) (before after : Holdings) (end : End) : Type 0 where
-  pub part : List ℕ → Part End
-  pub is_conversion : IsConversion text options part
-  pub broken : IsBrokenOff before after part end
-
--- the choices over the text were converted, or it was broken off
+-- the choices over the text were converted, or a device or memory broke the conversion off, behind a beginning of its events
 pub record Converts (text : List ℕ) (options : Options) (before after : Holdings) (end : End) : Type 0 where
   pub whole : end.status ≢ 6 → ConvertsWhole text options before after end
   pub quiet : end.status ≢ 6 → after.failures ≡ before.failures
-  pub broken : end.status ≡ 6 → ConvertsBroken text options before after end
+  pub broken : end.status ≡ 6 → (part : List ℕ → Part End) × IsConversion text options part × IsBrokenOff before after part end
   pub is_end : end ≡ end_of end.cause end.steps
 
 -- whatever the choices are, what they are converted to stands for the record
