@@ -1,5 +1,5 @@
 -- What each production of an expression is numbered as.
-use Rattle.std.proofs.Common.{◌≡◌, Bool, true, false, List, map, Option, Some, None, refl, ap, sym, ◌∙◌}
+use Rattle.std.proofs.Common.{◌≡◌, Bool, true, false, List, map, Option, Some, None, ℤ, pos, if◌then◌else◌, refl, ap, sym, ◌∙◌}
 use Rattle.pml_token.specs.Word.{Word}
 use Rattle.pml_tree.specs.declared.tree.Sign.{Sign}
 use Rattle.pml_tree.specs.declared.tree.Sign.TheVariants.{Plus, Minus}
