@@ -14,7 +14,7 @@ use Rattle.pml_tree.specs.declared.tree.Item.{Item, Item-F, map-Item, roll-Item,
 use Rattle.pml_tree.specs.declared.tree.Seq.{Seq as TreeSeq, Seq-F, map-Seq, roll-Seq, fold-roll-Seq, ind-Seq}
 use Rattle.promela_model.specs.Marks as marked
 use Rattle.promela_model.specs.Marks.{Marked, all_marks, of_seq, of_expr, of_sort, of_size, of_initial, of_variable, of_variables, one_mark}
-use Rattle.check_uses.specs.Parts.{item_layer as marked_item, seq_layer as marked_seq, of_basic, of_item, size_of}
+use Rattle.check_uses.specs.Parts.{item_layer as marked_item, seq_layer as marked_seq, of_basic, of_item}
 use Rattle.promela_model.specs.Stands.{cells_in_all}
 use Rattle.promela_model.specs.declared.mark.Mark.{Mark}
 use Rattle.promela_model.specs.declared.mark.Role.{Role}
