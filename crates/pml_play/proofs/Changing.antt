@@ -41,7 +41,7 @@ pub rejected_converts : (text : List ℕ) (options : Options) (rejection : Rejec
 rejected_converts text options Memory a is = record {
   whole = λ own. absurd (own refl);
   quiet = λ own. refl;
-  broken = λ six. let c = has_conversion text options in (c.0, c.1, broken.Memory, refl, memory_breaks c.0 Moved-nil, refl);
+  broken = λ six. let c = has_conversion text options in (c.0, c.1, (broken.Memory, refl, memory_breaks c.0 Moved-nil, refl));
   is_end = refl;
 }
 rejected_converts text options (Refused refusal line) a is = record {

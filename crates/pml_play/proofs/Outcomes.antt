@@ -185,14 +185,17 @@ module _ {text : List ℕ} where
   pub one_model : {lossy : Bool} {a b : Running} → IsModel text lossy a → IsModel text lossy b → a ≡ b
   one_model {lossy} {a} {b} m n = m.is ∙ ap (λ (s : State). first s lossy) (same_begun m.is_spelled n.is_spelled m.stands n.stands m.starts n.starts) ∙ sym n.is
 
+  line_by : {a : Refusal} {line : ℕ} → Refuses text a line → HasLine text a line
+  line_by (too_long h) = refl
+  line_by (lexical h) = h.on_line
+  line_by (left_out h) = h.on_line
+  line_by (inline h) = refl
+  line_by (too_deep h) = h.on_line
+  line_by (unspelled h) = h.on_line
+  line_by {a} (unfit h) = condition_line text a _ _ h.least.applies.applies
+
   pub line_of : {a : Refusal} {line : ℕ} → IsRefused text a line → HasLine text a line
-  line_of (too_long h) = refl
-  line_of (lexical h) = h.on_line
-  line_of (left_out h) = h.on_line
-  line_of (inline h) = refl
-  line_of (too_deep h) = h.on_line
-  line_of (unspelled h) = h.on_line
-  line_of {a} (unfit h) = condition_line text a _ _ h.least.applies.applies
+  line_of h = line_by (reason h)
 
   pub when_refused : {options : Options} {part : List ℕ → Part End} {a : Refusal} {m : ℕ} → IsRefused text a m → IsTranscript text options part → (line : ℕ) × (part ≡ refused a line Unread)
   when_refused h (of_refusal {line} g) = (line, ap (λ (x : Refusal). refused x line Unread) (one_refusal g h))
