@@ -1,2 +1,9 @@
+pub mod Branches
+pub mod Conditions
+pub mod Definitions
+pub mod Names
 pub mod Places
 pub mod Plain
+pub mod Refusals
+pub mod States
+pub mod Words

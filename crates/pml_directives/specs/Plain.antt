@@ -26,3 +26,8 @@ is_plain_behind last (b ∷ t) = if is_meant last b t then false else is_plain_b
 -- no byte of the text has one
 abbrev pub is_plain : List ℕ → Bool
 is_plain text = is_plain_behind 10 text
+
+-- how many bytes the joint at the front of a text has, or 0
+abbrev pub joint_of : List ℕ → ℕ
+joint_of (b ∷ c ∷ t) = if b == 92 && c == 10 then 2 else (if b == 92 && (c == 13 && begins_feed t) then 3 else 0)
+joint_of _ = 0

@@ -21,19 +21,3 @@ pub trait Files {
         is_quoted: bool,
     ) -> Result<Option<FoundFile>, AllocError>;
 }
-
-/// No files.
-#[derive(Drop)]
-pub struct NoFiles;
-
-impl Files for NoFiles {
-    fn file(
-        &mut self,
-        _alloc: Global,
-        _from: &[u8],
-        _name: &[u8],
-        _is_quoted: bool,
-    ) -> Result<Option<FoundFile>, AllocError> {
-        Ok(None)
-    }
-}

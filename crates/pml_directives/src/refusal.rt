@@ -1,5 +1,8 @@
 //! Why a text is refused.
 
+ghost use Rattle.std.specs.Prelude.{◌≡◌};
+ghost use Rattle.pml_directives.specs.Refusals.{refusal, refusal_of};
+
 use pml_macros::atom::FilePlace;
 use pml_macros::trouble::Trouble;
 use std::alloc::{AllocError, AllocFailed};
@@ -39,12 +42,16 @@ pub struct DirectiveRefusal {
 }
 
 /// A refusal at a place.
-pub fn refused(why: Why, place: FilePlace) -> DirectiveRefusal {
+pub fn refused(why: Why, place: FilePlace) -> DirectiveRefusal
+    ensures { result ≡ refusal why place }
+{
     DirectiveRefusal { why, place }
 }
 
 /// What macros were in trouble with, as a refusal: of a call at the call.
-pub fn of_trouble(trouble: Trouble, place: FilePlace) -> DirectiveRefusal {
+pub fn of_trouble(trouble: Trouble, place: FilePlace) -> DirectiveRefusal
+    ensures { result ≡ refusal_of trouble place }
+{
     match trouble {
         Trouble::Memory => refused(Why::Memory, place),
         Trouble::Open(atom) => refused(Why::Call(trouble), atom.call),

@@ -2,6 +2,7 @@
 
 ghost use Rattle.std.specs.Prelude.{◌≡◌, ◌<◌, ◌≤◌, ◌+◌, ◌^◌, [], length, IfOk};
 ghost use Rattle.pml_directives.specs.Places.{AreOf, place_behind, after};
+ghost use Rattle.pml_directives.specs.Plain.{joint_of};
 
 use pml_macros::atom::FilePlace;
 use std::alloc::{AllocError, Global};
@@ -15,7 +16,9 @@ pub struct Joined {
 }
 
 /// How many bytes the joint at the front of a text has, or 0.
-fn joint(text: &[u8]) -> usize {
+fn joint(text: &[u8]) -> usize
+    ensures { result ≡ joint_of text.now }
+{
     match text {
         [b'\\', b'\n', ..] => 2,
         [b'\\', b'\r', b'\n', ..] => 3,

@@ -1,5 +1,9 @@
 //! What is known while a text is preprocessed.
 
+ghost use Rattle.std.specs.Prelude.{◌≡◌, IfOk};
+ghost use Rattle.pml_macros.specs.Texts.{text_in};
+ghost use Rattle.pml_directives.specs.States as states;
+
 use pml_macros::atom::{Atom, FilePlace};
 use pml_macros::book::owned;
 use pml_macros::table::MacroTable;
@@ -34,12 +38,16 @@ pub struct Shift {
 
 impl Shift {
     /// The number of a line.
-    fn line(self, line: u32) -> u32 {
+    fn line(self, line: u32) -> u32
+        ensures { result ≡ states.line_behind self line }
+    {
         self.to.saturating_add(line.saturating_sub(self.from))
     }
 
     /// A token that stands for itself, with the number of its line.
-    pub fn shifted(self, atom: Atom) -> Atom {
+    pub fn shifted(self, atom: Atom) -> Atom
+        ensures { result ≡ states.shifted self atom }
+    {
         let place = FilePlace {
             file: atom.place.file,
             offset: atom.place.offset,
@@ -102,7 +110,9 @@ pub struct State {
 
 impl State {
     /// Nothing is known but what the model's own file is called, and what the macros that are given before it.
-    pub fn new(alloc: Global, own: &[u8], given: &[u8]) -> Result<State, AllocError> {
+    pub fn new(alloc: Global, own: &[u8], given: &[u8]) -> Result<State, AllocError>
+        ensures { IfOk result (states.IsNew own.now given.now) }
+    {
         let mut names = Vec::new(alloc);
         names.push(owned(alloc, own)?)?;
         names.push(owned(alloc, given)?)?;
@@ -127,7 +137,9 @@ impl State {
     }
 
     /// Whether what stands here is read.
-    pub fn is_live(&self) -> bool {
+    pub fn is_live(&self) -> bool
+        ensures { result ≡ states.is_live self.now.open.items }
+    {
         match self.open.as_slice() {
             [] => true,
             [.., last] => last.is_live,
@@ -135,7 +147,9 @@ impl State {
     }
 
     /// What the file of this number is called.
-    pub fn name(&self, file: u32) -> &[u8] {
+    pub fn name(&self, file: u32) -> &[u8]
+        ensures { result.now ≡ states.name_of self.now.names.items file }
+    {
         let number = file as usize;
         if number < self.names.len() {
             self.names[number].as_slice()
@@ -145,7 +159,9 @@ impl State {
     }
 
     /// On which line of the model's own file what stands at a place is included, or stands.
-    pub fn home(&self, place: FilePlace) -> u32 {
+    pub fn home(&self, place: FilePlace) -> u32
+        ensures { result ≡ states.home_of self.now.homes.items place }
+    {
         let number = place.file as usize;
         if number > 0 && number < self.homes.len() {
             self.homes[number]
@@ -155,7 +171,9 @@ impl State {
     }
 
     /// The text of a token.
-    pub fn text(&self, atom: &Atom) -> &[u8] {
+    pub fn text(&self, atom: &Atom) -> &[u8]
+        ensures { result.now ≡ text_in self.now.work.book atom.now.text }
+    {
         self.work.book.text(atom.text)
     }
 }

@@ -1,5 +1,13 @@
 //! What comes of a text with its `#` lines.
 
+ghost use Rattle.std.specs.Prelude.{false, ◌≡◌, ◌≤◌, ◌<◌, ◌+◌, ◌++◌, Some, length, IfOk, OnOk, IfErr, OnErr};
+ghost use Rattle.std.specs.List.{list_any};
+ghost use Rattle.pml_directives.specs.Names as rules;
+ghost use Rattle.pml_directives.specs.Places.{StandIn};
+ghost use Rattle.pml_directives.specs.Refusals.{refusal};
+ghost use Rattle.pml_directives.specs.Words.{is_refused};
+ghost use Rattle.pml_directives.specs.States.{called_so, shifted_all};
+
 use crate::branches::{behind, conditional};
 use crate::files::{Files, FoundFile};
 use crate::lines::{AtomLine, lines};
@@ -79,14 +87,21 @@ fn wanted_by(
     }
 }
 
+/// Whether the file of a number is called so.
+fn is_called(names: &[Vec<u8>], number: usize, name: &[u8]) -> bool
+    ensures { result ≡ called_so names.now name.now number }
+{
+    number < names.len() && names[number].as_slice() == name
+}
+
 /// Whether a file of this name says that it is read once, and was.
-fn is_read(state: &State, name: &[u8]) -> bool {
-    for number in &state.once {
-        if *number < state.names.len() && state.names[*number].as_slice() == name {
-            return true;
-        }
-    }
-    false
+fn is_read(state: &State, name: &[u8]) -> bool
+    ensures { result ≡ list_any (called_so state.now.names.items name.now) state.now.once.items }
+{
+    state
+        .once
+        .iter()
+        .any(|number| is_called(&state.names, *number, name))
 }
 
 /// The file that an `#include` names.
@@ -108,7 +123,10 @@ fn included<F: Files>(
 }
 
 /// `#pragma`: of all of them `once` alone is known.
-fn pragma(state: &mut State, atoms: &[Atom], place: FilePlace) -> Result<(), AllocError> {
+fn pragma(state: &mut State, atoms: &[Atom], place: FilePlace) -> Result<(), AllocError>
+    ensures alone { state.new ≡ record state.old { once = state.new.once } }
+    ensures once { OnOk result (state.new.once.items ≡ state.old.once.items ++ rules.once_by state.old.work.book atoms.now place) }
+{
     if let [first, ..] = atoms {
         if matches!(state.text(first), b"once") {
             state.once.push(place.file as usize)?;
@@ -118,23 +136,28 @@ fn pragma(state: &mut State, atoms: &[Atom], place: FilePlace) -> Result<(), All
 }
 
 /// The number that digits are, if it is one of a line.
-fn line_number(text: &[u8]) -> Option<u32> {
+fn line_number(text: &[u8]) -> Option<u32>
+    ensures { result ≡ rules.line_from 0 text.now }
+{
     let mut number = 0u32;
-    for b in text {
+    let mut rest = text;
+    while let [b, others @ ..] = rest {
         if *b < b'0' || *b > b'9' || number > MOST_LINE {
             return None;
         }
         number = 10 * number + u32::from(*b - b'0');
+        rest = others;
     }
     Some(number)
 }
 
 /// `#line` or a mark: the line behind it has this number.
-fn count_lines(
-    state: &mut State,
-    atoms: &[Atom],
-    place: FilePlace,
-) -> Result<(), DirectiveRefusal> {
+fn count_lines(state: &mut State, atoms: &[Atom], place: FilePlace) -> Result<(), DirectiveRefusal>
+    ensures stays { OnErr result (state.new ≡ state.old) }
+    ensures refused { IfErr result (λ e. e ≡ refusal Why.Form place) }
+    ensures alone { state.new ≡ record state.old { shift = state.new.shift } }
+    ensures shift { OnOk result (state.new.shift ≡ rules.shift_of state.old.work.book atoms.now place) }
+{
     let number = match atoms {
         [first, ..] => line_number(state.text(first)),
         [] => None,
@@ -150,7 +173,9 @@ fn count_lines(
 }
 
 /// Adds the tokens of a line to those that are read, by the numbers that the lines have.
-fn add_line(state: &mut State, atoms: &[Atom]) -> Result<(), AllocError> {
+fn add_line(state: &mut State, atoms: &[Atom]) -> Result<(), AllocError>
+    ensures { OnOk result (state.new.run.items ≡ state.old.run.items ++ shifted_all state.old.shift atoms.now) }
+{
     match state.shift {
         None => state.run.extend_from_slice(atoms),
         Some(shift) => {
@@ -169,7 +194,9 @@ fn plain(
     word: Word,
     atoms: &[Atom],
     place: FilePlace,
-) -> Result<(), DirectiveRefusal> {
+) -> Result<(), DirectiveRefusal>
+    ensures { OnOk result (is_refused word ≡ false) }
+{
     match word {
         Word::Define => define(alloc, state, atoms, place),
         Word::Undef => undefine(state, atoms, place),
@@ -232,7 +259,9 @@ fn line(alloc: Global, state: &mut State, line: &AtomLine) -> Result<Further, Di
 }
 
 /// Where an `#include` stands, of a line that is one.
-fn place_of(line: &AtomLine) -> FilePlace {
+fn place_of(line: &AtomLine) -> FilePlace
+    ensures { result ≡ rules.place_of line.now.atoms.items line.now.end }
+{
     match line.atoms.as_slice() {
         [first, ..] => first.place,
         [] => line.end,
@@ -240,7 +269,11 @@ fn place_of(line: &AtomLine) -> FilePlace {
 }
 
 /// A condition that a file leaves open is refused.
-fn closed(state: &State, opened: usize) -> Result<(), DirectiveRefusal> {
+fn closed(state: &State, opened: usize) -> Result<(), DirectiveRefusal>
+    ensures closed { OnOk result (length state.now.open.items ≤ opened) }
+    ensures left { OnErr result (opened < length state.now.open.items) }
+    ensures refused { IfErr result (λ e. e.why ≡ Why.Opener) }
+{
     if opened < state.open.len() {
         return Err(refused(Why::Opener, state.open[opened].place));
     }
@@ -290,7 +323,11 @@ fn lines_of(
     state: &mut State,
     number: u32,
     text: &[u8],
-) -> Result<Vec<AtomLine>, DirectiveRefusal> {
+) -> Result<Vec<AtomLine>, DirectiveRefusal>
+    ensures stand { IfOk result (λ v. StandIn state.new.work.book number text.now v.items) }
+    ensures short { OnOk result (length text.now ≤ MOST_FILE_BYTES) }
+    ensures fewer { OnOk result (state.new.bytes_left + length text.now ≡ state.old.bytes_left) }
+{
     if text.len() > MOST_FILE_BYTES || text.len() > state.bytes_left {
         return Err(refused(
             Why::Long,
@@ -307,7 +344,9 @@ fn lines_of(
 }
 
 /// The names that the text before a model defines.
-fn note_given(state: &mut State) -> Result<(), AllocError> {
+fn note_given(state: &mut State) -> Result<(), AllocError>
+    ensures { state.new ≡ record state.old { given = state.new.given } }
+{
     state.given = state.table.names()?;
     Ok(())
 }
