@@ -12,7 +12,7 @@ returns c =
     let more = c.details.ensures in
     let told = c.told_choices.ensures in
     let rest = chained _ _ _ _ _ (subst (λ (n : ℕ). Writes c.args.front c.number-2.new.json (member (codes "fault") (count n))) c.number.ensures c.number-2.ensures)
-    (chained _ _ _ _ _ (subst (λ (bs : List ℕ). Writes c.number-2.new.json c.text.new.json (member (codes "words") (text bs))) c.words.ensures c.text.ensures)
+    (chained _ _ _ _ _ (subst (λ (bs : List ℕ). Writes c.number-2.new.json c.text.new.json (member (codes "words") (text bs))) c.of_fault.ensures c.text.ensures)
     (chained _ _ _ _ _ more.2 (chained _ _ _ _ _ told.2 c.end_object.ensures))) in (
       more.0,
       more.1,
