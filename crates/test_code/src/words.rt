@@ -43,7 +43,7 @@ fn faults(rt: HostRuntime) {
             &rt,
             words,
             "its words",
-            diagnostic_words::of_fault(fault),
+            diagnostic_words::of_fault(*fault),
             words.as_bytes(),
         );
     }
@@ -57,7 +57,7 @@ fn refusals(rt: HostRuntime) {
             &rt,
             words,
             "its words",
-            diagnostic_words::of_refusal(refusal),
+            diagnostic_words::of_refusal(*refusal),
             words.as_bytes(),
         );
     }
