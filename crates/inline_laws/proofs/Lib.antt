@@ -1,5 +1,3 @@
-pub mod Deriving
-pub mod Expanding
 pub mod Defining
 pub mod Calling
 pub mod Giving

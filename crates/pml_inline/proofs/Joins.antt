@@ -3,7 +3,7 @@ use Rattle.std.proofs.Common.{◌≡◌, ℕ, ◌+◌, ◌<◌, ◌≤◌, Bool,
 use Rattle.std.proofs.lemmas.Bool.{lt-leb, le-leb}
 use Rattle.pml_token.specs.Word.{Word}
 use Rattle.profile.specs.declared.TheConstants.{MOST_REPLACED}
-use Rattle.promela_text.specs.Inlines.{Given, join_given, itself, limited}
+use Rattle.pml_inline.specs.Expansion.{Given, join_given, itself, limited}
 use Rattle.pml_inline.proofs.Words.{nothing}
 use Rattle.pml_inline.specs.Texts.{IsPast}
 

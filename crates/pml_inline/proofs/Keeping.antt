@@ -7,7 +7,9 @@ use Rattle.std.proofs.lemmas.List.Elements.{All-nil, All-cons, All-head, All-tai
 use Rattle.pml_token.specs.declared.token.Kind.TheVariants.{OpenParen, CloseParen, OpenBrace, CloseBrace, Comma}
 use Rattle.pml_token.specs.Word.{same_kind, Word}
 use Rattle.profile.specs.declared.TheConstants.{MOST_CALLS, MOST_REPLACED}
-use Rattle.promela_text.specs.Inlines.{is_name, is_inline, has_inline, begins_as, closing, part_turn, parts, arguments, level_behind, Inline, is_among, parameter_names, listed, with_end, definition, definition_turn, definitions, all_differ, Given, join_given, itself, parameter, instead, replaced, fits, callee, turn, reading, where_right, calling, braces_behind, outermost_call, defined, text_turn, texts, limited, expansion, Expands}
+use Rattle.promela_text.specs.Inlines.{is_name, is_inline, has_inline, begins_as, closing, part_turn, parts, arguments, level_behind, Inline, is_among, parameter_names, listed, with_end, definition, all_differ, parameter, instead, replaced, fits, callee, braces_behind, Expands}
+use Rattle.pml_inline.specs.Expansion.{definition_turn, definitions, Given, join_given, itself, turn, reading, where_right, calling, outermost_call, defined, text_turn, texts, limited, expansion}
+use Rattle.pml_inline.proofs.Expanding.{are_expansions}
 use Rattle.pml_inline.proofs.Words.{by_definitions, enclosed, with_parameters, counted}
 
 module _ (P : Word → Type 0) where
@@ -196,4 +198,4 @@ module _ (P : Word → Type 0) where
           by_test false = tt
 
   pub kept : (ts us : List Word) → Of ts → Expands ts us → Of us
-  kept ts us h e = subst (λ (o : Option (List Word)). OfWords o) e (whole ts h)
+  kept ts us h e = subst (λ (o : Option (List Word)). OfWords o) (are_expansions ts us e) (whole ts h)

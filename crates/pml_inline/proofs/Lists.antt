@@ -9,7 +9,8 @@ use denote.Enum.Bare.{same_true}
 use Rattle.pml_token.specs.contracts.token.Kind.{the_type}
 use Rattle.pml_token.specs.declared.token.Kind.TheVariants.{Name, Inline as InlineWord, OpenParen, CloseParen, Comma, End}
 use Rattle.pml_token.specs.Word.{same_kind, Word}
-use Rattle.promela_text.specs.Inlines.{is_inline, has_inline, is_name, begins_as, to_closing, closing, level_behind, part_turn, parts, Inline, names, parameter_names, definition, definition_turn, definitions}
+use Rattle.promela_text.specs.Inlines.{is_inline, has_inline, is_name, begins_as, to_closing, closing, level_behind, part_turn, parts, Inline, names, parameter_names, definition}
+use Rattle.pml_inline.specs.Expansion.{definition_turn, definitions}
 use Rattle.pml_inline.proofs.Words.{define, with_parameters}
 use Rattle.pml_inline.specs.Places.{no_word, word_at, words_of, places_from}
 use Rattle.std.specs.Borrow.{Bor}

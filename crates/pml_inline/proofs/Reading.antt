@@ -6,7 +6,8 @@ use Rattle.std.proofs.lemmas.List.{drop_more, drop_all, drop-map, take-map, drop
 use Rattle.pml_token.specs.declared.token.Kind.TheVariants.{OpenParen, CloseParen}
 use Rattle.pml_token.specs.Word.{Word}
 use Rattle.profile.specs.declared.TheConstants.{MOST_CALLS}
-use Rattle.promela_text.specs.Inlines.{is_inline, has_inline, is_name, closing, Inline, Given, join_given, itself, callee, turn, reading, calling, braces_behind, outermost_call, defined, text_turn, texts}
+use Rattle.promela_text.specs.Inlines.{is_inline, has_inline, is_name, closing, Inline, callee, braces_behind}
+use Rattle.pml_inline.specs.Expansion.{Given, join_given, itself, turn, reading, calling, outermost_call, defined, text_turn, texts}
 use Rattle.pml_inline.proofs.Words.{enclosed, nothing}
 use Rattle.pml_inline.specs.Places.{word_at, words_of}
 use Rattle.pml_inline.proofs.Lists.{closing_front, word_rest}

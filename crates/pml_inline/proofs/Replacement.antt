@@ -10,7 +10,8 @@ use Rattle.pml_token.specs.Word.{Word}
 use Rattle.profile.specs.declared.TheConstants.{MOST_CALLS}
 use Rattle.pml_inline.specs.declared.calls.Text.{Text}
 use Rattle.pml_inline.specs.declared.definitions.Definition.{Definition}
-use Rattle.promela_text.specs.Inlines.{arguments, Inline, is_among, Given, join_given, fits, replaced, reading, calling}
+use Rattle.promela_text.specs.Inlines.{arguments, Inline, is_among, fits, replaced}
+use Rattle.pml_inline.specs.Expansion.{Given, join_given, reading, calling}
 use Rattle.pml_inline.specs.Places.{word_at, words_of}
 use Rattle.pml_inline.specs.Parts.{inline_of, inlines_of, is_bare, lists_of, places_replaced, IsMarked}
 use Rattle.pml_inline.specs.Texts.{inlines, IsText, name_of, around, AreNumbers, call_within, read_within, IsReplaced, IsNotReplaced}

@@ -7,7 +7,8 @@ use Rattle.std.proofs.lemmas.List.{map-append}
 use Rattle.std.proofs.lemmas.List.Elements.{All-head, All-tail}
 use Rattle.pml_token.specs.Word.{Word}
 use Rattle.pml_inline.specs.declared.definitions.Part.{Part}
-use Rattle.promela_text.specs.Inlines.{arguments, Inline, is_among, Given, join_given, parameter, instead, replaced, fits, where_right, reading, calling}
+use Rattle.promela_text.specs.Inlines.{arguments, Inline, is_among, parameter, instead, replaced, fits}
+use Rattle.pml_inline.specs.Expansion.{Given, join_given, where_right, reading, calling}
 use Rattle.pml_inline.proofs.Words.{counted}
 use Rattle.pml_inline.specs.Places.{word_at, words_of}
 use Rattle.pml_inline.specs.Parts.{places_of, AreMarked, unwrap_places, places_instead, places_replaced, is_bare}

@@ -6,7 +6,8 @@ use Rattle.pml_token.specs.declared.token.Kind.TheVariants.{Name, Number, Inline
 use Rattle.pml_lex.specs.Scanning.{sign_of_one}
 use Rattle.pml_token.specs.Word.{Word}
 use Rattle.std.specs.Prelude.{unwrap_or}
-use Rattle.promela_text.specs.Inlines.{is_inline, definition, calling, callee, expansion}
+use Rattle.promela_text.specs.Inlines.{is_inline, definition, callee}
+use Rattle.pml_inline.specs.Expansion.{calling, expansion}
 
 abbrev kind_of : ℕ → Kind
 kind_of c = if nat_eq c 73 then Inline else (if nat_le 48 c then (if nat_le c 57 then Number else unwrap_or (sign_of_one c) Name) else unwrap_or (sign_of_one c) Semicolon)

@@ -8,7 +8,8 @@ use Rattle.std.proofs.lemmas.List.{drop-map, drop-drop, drop_more, take_more, ta
 use Rattle.pml_token.specs.declared.token.Kind.TheVariants.{OpenParen, CloseParen}
 use Rattle.pml_token.specs.Word.{Word}
 use Rattle.profile.specs.declared.TheConstants.{MOST_CALLS, MOST_REPLACED}
-use Rattle.promela_text.specs.Inlines.{is_inline, has_inline, closing, Inline, definitions, Given, join_given, callee, reading, calling, braces_behind, texts, limited}
+use Rattle.promela_text.specs.Inlines.{is_inline, has_inline, closing, Inline, callee, braces_behind}
+use Rattle.pml_inline.specs.Expansion.{definitions, Given, join_given, reading, calling, texts, limited}
 use Rattle.pml_inline.specs.Places.{no_word, word_at, words_of}
 use Rattle.pml_inline.specs.declared.calls.Text.{Text}
 use Rattle.pml_inline.specs.Texts.{IsPast, IsRead, inlines, option_inline, read_within, IsReplaced}

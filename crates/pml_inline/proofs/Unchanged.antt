@@ -5,7 +5,9 @@ use Rattle.std.specs.Str.{bytes_eq}
 use Rattle.std.proofs.lemmas.Bool.{false≢true}
 use Rattle.pml_token.specs.declared.token.Kind.TheVariants.{OpenParen}
 use Rattle.pml_token.specs.Word.{Word}
-use Rattle.promela_text.specs.Inlines.{is_inline, has_inline, is_name, begins_as, Inline, definition, definition_turn, definitions, join_given, itself, callee, braces_behind, text_turn, texts, limited, Expands}
+use Rattle.promela_text.specs.Inlines.{is_inline, has_inline, is_name, begins_as, Inline, definition, callee, braces_behind, Expands}
+use Rattle.pml_inline.specs.Expansion.{definition_turn, definitions, join_given, itself, text_turn, texts, limited}
+use Rattle.pml_inline.proofs.Expanding.{are_left}
 use Rattle.pml_inline.proofs.Whole.{expansion_is}
 
 neither : (b c : Bool) → (b || c) ≡ false → (b ≡ false) × (c ≡ false)
@@ -35,4 +37,4 @@ unchanged (w ∷ ws) n h =
     ∙ ap (join_given (itself w)) (unchanged ws (braces_behind n w) both.1)
 
 pub own_expansion : (ts : List Word) → has_inline ts ≡ false → Expands ts ts
-own_expansion ts h = expansion_is ts [] (no_definitions ts h) refl ∙ ap limited (unchanged ts 0 h)
+own_expansion ts h = are_left ts ts (expansion_is ts [] (no_definitions ts h) refl ∙ ap limited (unchanged ts 0 h))

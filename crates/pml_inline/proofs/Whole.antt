@@ -4,8 +4,10 @@ use Rattle.pml_token.specs.Word.{Word}
 use Rattle.promela_text.specs.Tokens.{IsTooDeep}
 use Rattle.promela_text.specs.declared.inline_fault.InlineError.{InlineError}
 use Rattle.promela_text.specs.declared.inline_fault.InlineError.TheVariants.{Memory, Inline as Misused, TooDeep}
-use Rattle.promela_text.specs.Inlines.{Inline, all_differ, definitions, texts, limited, expansion, Expands, IsExpanded, Given}
+use Rattle.promela_text.specs.Inlines.{Inline, all_differ, Expands, IsExpanded}
+use Rattle.pml_inline.specs.Expansion.{definitions, texts, limited, expansion, Given}
 use Rattle.pml_inline.proofs.Words.{by_definitions}
+use Rattle.pml_inline.proofs.Expanding.{are_expansions}
 use Rattle.pml_inline.specs.Least.{IsLeast, IsFaultOnLine}
 use Rattle.pml_inline.specs.Parts.{IsUndefined, IsRepeated}
 use Rattle.pml_inline.specs.Texts.{IsMisread}
@@ -29,10 +31,10 @@ some : {us vs : List Word} → Some us ≡ Some vs → us ≡ vs
 some e = cc
 
 no_result : (ts : List Word) → expansion ts ≡ None → (us : List Word) → Expands ts us → ⊥
-no_result ts e us f = none (sym e ∙ f)
+no_result ts e us f = none (sym e ∙ are_expansions ts us f)
 
 pub one_result : (ts us vs : List Word) → Expands ts us → Expands ts vs → us ≡ vs
-one_result ts us vs e f = some (sym e ∙ f)
+one_result ts us vs e f = some (sym (are_expansions ts us e) ∙ are_expansions ts vs f)
 
 pub least_undefined : (ts : List Word) (f : InlineError) → IsUndefined ts f → IsLeast ts f
 least_undefined ts Memory h = tt

@@ -1,7 +1,8 @@
 -- Words by which what is asked behind an option is said.
 use Rattle.std.specs.Prelude.{ℕ, ◌+◌, if◌then◌else◌, List, ◌∷◌, [], length, map, take, drop, Option, Some, None, option_map, option_and_then}
 use Rattle.pml_token.specs.Word.{Word}
-use Rattle.promela_text.specs.Inlines.{Inline, listed, with_body, all_differ, Given, join_given, limited, texts}
+use Rattle.promela_text.specs.Inlines.{Inline, listed, with_body, all_differ}
+use Rattle.pml_inline.specs.Expansion.{Given, join_given, limited, texts}
 
 -- a definition, and those behind it
 abbrev pub define : Option Inline → (ℕ → Option (List Inline)) → Option (List Inline)

@@ -11,7 +11,8 @@ use Rattle.pml_inline.specs.declared.definitions.Definition.{Definition}
 use Rattle.pml_inline.specs.Places.{word_at, words_of}
 use Rattle.promela_text.specs.declared.inline_fault.InlineError.{InlineError}
 use Rattle.promela_text.specs.declared.inline_fault.InlineError.TheVariants.{Memory, Inline as Misused, TooDeep}
-use Rattle.promela_text.specs.Inlines.{Inline, all_differ, definition, definitions, parameter, place_of}
+use Rattle.promela_text.specs.Inlines.{Inline, all_differ, definition, parameter, place_of}
+use Rattle.pml_inline.specs.Expansion.{definitions}
 
 abbrev pub texts_of : List (Bor (List ℕ)) → List (List ℕ)
 texts_of ns = map (λ n. n.now) ns

@@ -7,7 +7,8 @@ use Rattle.pml_inline.specs.declared.calls.Text.{Text}
 use Rattle.pml_inline.specs.declared.calls.Given as code
 use Rattle.promela_text.specs.declared.inline_fault.InlineError.{InlineError}
 use Rattle.promela_text.specs.declared.inline_fault.InlineError.TheVariants.{Memory, Inline as Misused, TooDeep}
-use Rattle.promela_text.specs.Inlines.{is_inline, Inline, all_differ, definitions, Given, join_given, callee, calling, reading, texts, limited}
+use Rattle.promela_text.specs.Inlines.{is_inline, Inline, all_differ, callee}
+use Rattle.pml_inline.specs.Expansion.{definitions, Given, join_given, calling, reading, texts, limited}
 use Rattle.pml_inline.specs.Places.{word_at, words_of}
 use Rattle.pml_inline.specs.Parts.{inlines_of, AreAllMarked, AreShort, number_of}
 

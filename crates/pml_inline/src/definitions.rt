@@ -4,6 +4,7 @@ ghost use Rattle.std.specs.Prelude.{◌≡◌, ◌==◌, ◌*◌, if◌then◌el
 ghost use Rattle.pml_token.specs.Word.{Word};
 ghost use Rattle.pml_inline.specs.Places.{words_of, word_at};
 ghost use Rattle.promela_text.specs.Inlines as inlines;
+ghost use Rattle.pml_inline.specs.Expansion as expansion;
 ghost use Rattle.pml_inline.specs.Parts.{AreNumbered, texts_of, places_of, AreMarked, IsDefinition, inlines_of, AreAllMarked, AreShort, number_of, IsUndefined, IsRepeated};
 
 use crate::misuse::{of_definition, of_names};
@@ -165,7 +166,7 @@ pub(crate) fn definitions<'t>(
 ) -> Result<Vec<Definition<'t>>, InlineError>
     requires whole { words_of tokens.now places.now ≡ tokens.now }
     requires same { length places.now ≡ length tokens.now }
-    ensures ok { IfOk result (λ v. inlines.definitions tokens.now 0 ≡ Some (inlines_of tokens.now v.items)) }
+    ensures ok { IfOk result (λ v. expansion.definitions tokens.now 0 ≡ Some (inlines_of tokens.now v.items)) }
     ensures marked { IfOk result (λ v. AreAllMarked tokens.now v.items) }
     ensures short { IfOk result (λ v. AreShort tokens.now v.items) }
     ensures err { IfErr result (λ f. IsUndefined tokens.now f) }

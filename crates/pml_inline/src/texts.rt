@@ -2,8 +2,9 @@
 
 ghost use Rattle.std.specs.Prelude.{◌≡◌, ◌<◌, ◌≤◌, ◌+◌, ◌^◌, ◌-◌, [], Some, IfOk, IfErr};
 ghost use Rattle.pml_token.specs.Word.{Word};
-ghost use Rattle.promela_text.specs.Inlines.{definitions};
-ghost use Rattle.promela_text.specs.Inlines as expansion;
+ghost use Rattle.pml_inline.specs.Expansion.{definitions};
+ghost use Rattle.promela_text.specs.Inlines as brackets;
+ghost use Rattle.pml_inline.specs.Expansion as expansion;
 ghost use Rattle.pml_inline.specs.Texts.{IsText, ReadsCall, inlines, given_of, IsCall, IsMisread};
 
 use crate::calls::{Given, Text, callee, read};
@@ -18,7 +19,7 @@ use std::alloc::{AllocError, Global};
 /// How many braces are open behind a token.
 fn braces_behind(braces: usize, token: &Token<'_>) -> usize
     requires { braces < 2 ^ 64 - 1 }
-    ensures { result ≡ expansion.braces_behind braces token.now }
+    ensures { result ≡ brackets.braces_behind braces token.now }
 {
     if same_kind(token.kind(), Kind::OpenBrace) {
         braces + 1

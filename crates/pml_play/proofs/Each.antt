@@ -12,7 +12,9 @@ use Rattle.pml_token.specs.Word.{Word}
 use Rattle.pml_lex.specs.Scanning.{Found, next}
 use Rattle.promela_text.specs.Tokens.{IsCut, has_left_out, depth_behind, IsTooDeep, IsLine, AreTokens}
 use Rattle.pml_lex.specs.Rows.{row_behind, IsPast}
-use Rattle.promela_text.specs.Inlines.{expansion, Expands}
+use Rattle.promela_text.specs.Inlines.{Expands}
+use Rattle.pml_inline.specs.Expansion.{expansion}
+use Rattle.pml_inline.proofs.Expanding.{are_expansions, are_left}
 use Rattle.pml_lex.proofs.Longest.{IsNext}
 use Rattle.pml_lex.proofs.Scan.{next_is}
 use Rattle.pml_lex.proofs.Steps.{Reached, reached_start, reached_more, reached_end, reached_none}
@@ -128,8 +130,8 @@ expanded_or text = by_tokens (tokens_or text)
     by_depth ts are us e (inr shallow) = inl (us, record { tokens = ts; are_tokens = are; is_expanded = record { expands = e; shallow = shallow } })
 
     by_result : (ts : List Word) → AreTokens text ts → (o : Option (List Word)) → expansion ts ≡ o → ((vs : List Word) × AreExpanded text vs) ⊎ Refusals text
-    by_result ts are None e = inr (r.Inline, 0, inline are (λ us f. no_result (sym e ∙ f)))
-    by_result ts are (Some us) e = by_depth ts are us e (deep_or_not us)
+    by_result ts are None e = inr (r.Inline, 0, inline are (λ us f. no_result (sym e ∙ are_expansions ts us f)))
+    by_result ts are (Some us) e = by_depth ts are us (are_left ts us e) (deep_or_not us)
 
     by_tokens : ((ts : List Word) × AreTokens text ts) ⊎ Refusals text → ((vs : List Word) × AreExpanded text vs) ⊎ Refusals text
     by_tokens (inl h) = by_result h.0 h.1 (expansion h.0) refl

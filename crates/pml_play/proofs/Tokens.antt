@@ -11,9 +11,11 @@ use Rattle.promela_text.specs.declared.lexeme.Lexeme.TheVariants.{Skipped, Token
 use Rattle.pml_token.specs.Word.{Word}
 use Rattle.promela_text.specs.Tokens.{lexeme, IsCut, is_line_feed, line_behind, is_fresh, word, words, IsOnLine, AreTokens}
 use Rattle.pml_lex.proofs.Lines.{token_lines}
-use Rattle.promela_text.specs.Inlines.{is_inline, has_inline, closing, Inline, is_among, definitions, all_differ, arguments, Given, join_given, itself, replaced, fits, callee, turn, reading, where_right, calling, braces_behind, outermost_call, defined, text_turn, texts, limited, expansion, Expands}
+use Rattle.promela_text.specs.Inlines.{is_inline, has_inline, closing, Inline, is_among, all_differ, arguments, replaced, fits, callee, braces_behind, Expands}
+use Rattle.pml_inline.specs.Expansion.{definitions, Given, join_given, itself, turn, reading, where_right, calling, outermost_call, defined, text_turn, texts, limited, expansion}
 use Rattle.pml_inline.proofs.Words.{by_definitions, enclosed, counted}
 use Rattle.pml_inline.proofs.Keeping.{kept}
+use Rattle.pml_inline.proofs.Expanding.{are_expansions}
 
 -- ---- the tokens of a text
 
@@ -144,7 +146,7 @@ whole ts = by_list (definitions ts 0)
         by_test false = tt
 
 expanded_short : (ts us : List Word) → Expands ts us → length us ≤ length ts + MOST_REPLACED
-expanded_short ts us e = subst (WithinOption (length ts)) e (whole ts)
+expanded_short ts us e = subst (WithinOption (length ts)) (are_expansions ts us e) (whole ts)
 
 -- what comes of a text's tokens: how many there are at most, and the last line that one of them is on
 pub few_tokens : (text : List ℕ) (ts us : List Word) → AreTokens text ts → Expands ts us → length us ≤ 1300000

@@ -1,7 +1,7 @@
--- What a definition of an inline is, what comes of tokens in which calls of inlines are replaced, and of a whole text.
+-- What a definition of an inline is, what comes of tokens in which calls of inlines are replaced, and of a whole text, by rules.
 -- Hold it against the page `inline`; docs/REFUSALS.md, M4 and M19.
 use Rattle.pml_token.specs.declared.token.Kind.TheVariants as kind
-use Rattle.std.specs.Prelude.{ℕ, zero, suc, ◌+◌, ◌-◌, Bool, true, false, ◌&&◌, ◌||◌, nat_eq, if◌then◌else◌, List, [], ◌∷◌, Option, Some, None, ◌*◌, not, length, take, drop, option_map, option_and_then, ◌++◌, find, ◌≡◌, nat_le, map, unwrap_or}
+use Rattle.std.specs.Prelude.{ℕ, zero, suc, ◌+◌, ◌-◌, Bool, true, false, ◌&&◌, ◌||◌, nat_eq, if◌then◌else◌, List, [], ◌∷◌, Option, Some, None, ◌*◌, not, length, take, drop, option_map, option_and_then, ◌++◌, find, ◌≡◌, ◌≤◌, map, unwrap_or}
 use Rattle.std.specs.List.{list_any, onto_first, flat_map, slice_get}
 use Rattle.pml_token.specs.declared.token.Kind.{Kind}
 use Rattle.pml_token.specs.declared.token.Kind.TheVariants.{Name, OpenParen, CloseParen, OpenBracket, CloseBracket, OpenBrace, CloseBrace, Comma}
@@ -120,32 +120,7 @@ definition (w ∷ ws) =
     if is_name w && begins_as OpenParen ws
     then option_and_then (λ ps. with_body w.text ps (drop (listed ps) (drop 1 ws))) (parameter_names (drop 1 ws)) else None
 
--- the definitions from a token on: it is passed over, or begins one, or is another token
-abbrev pub definition_turn : ℕ → Bool → Option Inline → (ℕ → Option (List Inline)) → Option (List Inline)
-definition_turn (suc n) here d rest = rest n
-definition_turn zero true d rest = option_and_then (λ e. option_map (λ ds. e ∷ ds) (rest e.size)) d
-definition_turn zero false d rest = rest 0
-
--- the definitions, in order, where each word `inline` begins one; the first `n` tokens are passed over
-abbrev pub definitions : List Word → ℕ → Option (List Inline)
-definitions [] n = Some []
-definitions (w ∷ ws) n = definition_turn n (is_inline w) (definition ws) (definitions ws)
-
 -- ---- calls
-
--- What comes out, and how many tokens all the replacements on the way have.
-pub record Given : Type 0 where
-  pub tokens : List Word
-  pub count : ℕ
-
--- one after the other
-abbrev pub join_given : Option Given → Option Given → Option Given
-join_given (Some a) (Some b) = Some (record { tokens = a.tokens ++ b.tokens; count = a.count + b.count })
-join_given _ _ = None
-
--- a token comes out as it is
-abbrev pub itself : Word → Option Given
-itself w = Some (record { tokens = w ∷ []; count = 0 })
 
 -- the first place of a name among names
 abbrev pub place_of : List ℕ → List (List ℕ) → Option ℕ
@@ -173,29 +148,27 @@ fits d args = nat_eq (length args) (length d.parameters) && not (list_any is_emp
 unfoldable pub callee : List Inline → Word → List Word → Option Inline
 callee known w ws = if is_name w && begins_as OpenParen ws then find (λ d. bytes_eq w.text d.name) known else None
 
--- what comes of a token and of what is behind it: it is passed over, or stays, or is a call, whose `)` stands behind `k` tokens
-abbrev pub turn : (Inline → List Word → Option Given) → ℕ → Option Inline → Word → List Word → (ℕ → Option Given) → Option Given
-turn call (suc n) d w ws rest = rest n
-turn call zero None w ws rest = join_given (itself w) (rest 0)
-turn call zero (Some d) w ws rest =
-    option_and_then (λ k. join_given (call d (take k (drop 1 ws))) (rest (k + 2))) (closing OpenParen CloseParen (drop 1 ws) 0)
+-- the tokens between the parentheses of a call, of which n are
+abbrev pub inside_call : ℕ → List Word → List Word
+inside_call n ws = take n (drop 1 ws)
 
--- what comes out of tokens by `call`, which says what comes out of a call; the first `n` tokens are passed over
-abbrev pub reading : List Inline → (Inline → List Word → Option Given) → List Word → ℕ → Option Given
-reading known call [] n = Some (record { tokens = []; count = 0 })
-reading known call (w ∷ ws) n = turn call n (callee known w ws) w ws (reading known call ws)
+-- the body of an inline, with what stands between the parentheses for its parameters
+abbrev pub body_with : Inline → ℕ → List Word → List Word
+body_with d n ws = replaced d (arguments (inside_call n ws))
 
--- what is read counts by its tokens, where the call has as many arguments as there are parameters
-abbrev pub where_right : Bool → (List Word → Option Given) → List Word → Option Given
-where_right true read ts = join_given (Some (record { tokens = []; count = length ts })) (read ts)
-where_right false read ts = None
+-- it is called by no call round it, and has as many arguments as parameters, none of them empty
+abbrev pub IsRight : List (List ℕ) → Inline → ℕ → List Word → Type 0
+IsRight active d n ws = (not (is_among d.name active) && fits d (arguments (inside_call n ws))) ≡ true
 
--- What comes out of a call, where `room` calls more may be within one another, and the calls of `active` are around it.
-unfoldable pub calling : List Inline → ℕ → List (List ℕ) → Inline → List Word → Option Given
-calling known zero active d inside = None
-calling known (suc room) active d inside =
-    where_right (not (is_among d.name active) && fits d (arguments inside))
-    (λ ts. reading known (calling known room (active ++ d.name ∷ [])) ts 0) (replaced d (arguments inside))
+-- Of the first tokens come the second, by replacements of so many tokens in all, where so many calls more may be within one another
+-- and the calls of `active` are round them.
+pub data Becomes (known : List Inline) : ℕ → List (List ℕ) → List Word → List Word → ℕ → Type 0 where
+  nothing_more : {room : ℕ} {active : List (List ℕ)} → Becomes known room active [] [] 0
+  stays : {room : ℕ} {active : List (List ℕ)} {w : Word} {ws us : List Word} {c : ℕ} → callee known w ws ≡ None → Becomes known room active ws us c
+      → Becomes known room active (w ∷ ws) (w ∷ us) c
+  is_replaced : {room : ℕ} {active : List (List ℕ)} {w : Word} {ws us vs : List Word} {d : Inline} {n a b : ℕ} → callee known w ws ≡ Some d
+      → closing OpenParen CloseParen (drop 1 ws) 0 ≡ Some n → IsRight active d n ws → Becomes known room (active ++ d.name ∷ []) (body_with d n ws) us a
+      → Becomes known (suc room) active (drop (n + 2) ws) vs b → Becomes known (suc room) active (w ∷ ws) (us ++ vs) (length (body_with d n ws) + a + b)
 
 -- ---- the expansion of a text
 
@@ -203,49 +176,27 @@ calling known (suc room) active d inside =
 abbrev pub braces_behind : ℕ → Word → ℕ
 braces_behind n w = if same_kind w.kind OpenBrace then n + 1 else (if same_kind w.kind CloseBrace then n - 1 else n)
 
--- a call outside all others, whose parentheses have no word `inline` between them
-abbrev pub outermost_call : (List Word → Option Given) → List Word → (ℕ → Option Given) → Option ℕ → Option Given
-outermost_call call ws rest None = None
-outermost_call call ws rest (Some n) =
-    if has_inline (take n (drop 1 ws)) then None else join_given (call (take n (drop 1 ws))) (rest (n + 2))
+-- Of the first tokens, with these definitions in them, come the second, by replacements of so many tokens in all, where these inlines are known
+-- before them and so many braces are open. A definition stands outside all braces, is taken out, and is known from there on.
+pub data Leave : (known : List Inline) (braces : ℕ) (tokens : List Word) (own : List Inline) (left : List Word) (count : ℕ) → Type 0 where
+  none_left : {known : List Inline} {n : ℕ} → Leave known n [] [] [] 0
+  is_left : {known own : List Inline} {n c : ℕ} {w : Word} {ws us : List Word} → is_inline w ≡ false → callee known w ws ≡ None
+      → Leave known (braces_behind n w) ws own us c → Leave known n (w ∷ ws) own (w ∷ us) c
+  -- a call outside all others, whose parentheses have no word `inline` between them
+  calls : {known own : List Inline} {n m a b : ℕ} {w : Word} {ws us vs : List Word} {d : Inline} → is_inline w ≡ false → callee known w ws ≡ Some d
+      → closing OpenParen CloseParen (drop 1 ws) 0 ≡ Some m → has_inline (inside_call m ws) ≡ false → IsRight [] d m ws
+      → Becomes known (MOST_CALLS - 1) (d.name ∷ []) (body_with d m ws) us a → Leave known n (drop (m + 2) ws) own vs b
+      → Leave known n (w ∷ ws) own (us ++ vs) (length (body_with d m ws) + a + b)
+  defines : {known own : List Inline} {c : ℕ} {w : Word} {ws us : List Word} {d : Inline} → is_inline w ≡ true → definition ws ≡ Some d
+      → Leave (known ++ d ∷ []) 0 (drop d.size ws) own us c → Leave known 0 (w ∷ ws) (d ∷ own) us c
 
--- What comes out of the rest, where these inlines stand before it and behind its front, so many braces are open, and
--- so many of its tokens are passed over.
-abbrev pub Rest : Type 0
-Rest = List Inline → List Inline → ℕ → ℕ → Option Given
-
--- a definition, outside all braces
-abbrev pub defined : Rest → List Inline → List Inline → ℕ → Option Given
-defined rest known (d ∷ ds) zero = rest (known ++ d ∷ []) ds 0 d.size
-defined rest known (d ∷ ds) (suc n) = None
-defined rest known [] n = None
-
--- what comes of a token of a text and of what is behind it: it is passed over, or begins a definition, or stays, or is a call
-abbrev pub text_turn : ℕ → Bool → Option Inline → Word → List Word → Rest → Rest
-text_turn (suc m) here d w ws rest known ds n m' = rest known ds n m
-text_turn zero true d w ws rest known ds n m' = defined rest known ds n
-text_turn zero false None w ws rest known ds n m' = join_given (itself w) (rest known ds (braces_behind n w) 0)
-text_turn zero false (Some d) w ws rest known ds n m' = outermost_call (calling known MOST_CALLS [] d) ws (rest known ds n) (closing OpenParen CloseParen (drop 1 ws) 0)
-
--- What comes out of a text. `known` are the definitions before it, `ds` those in it, `n` braces are open before it, and the
--- first `m` tokens are passed over.
-abbrev pub texts : List Word → Rest
-texts [] known ds n m = Some (record { tokens = []; count = 0 })
-texts (w ∷ ws) known ds n m = text_turn m (is_inline w) (callee known w ws) w ws (texts ws) known ds n m
-
--- all replacements together are not too many tokens
-abbrev pub limited : Option Given → Option (List Word)
-limited o = option_and_then (λ g. if nat_le g.count MOST_REPLACED then Some g.tokens else None) o
-
--- the tokens with their definitions taken out and their calls replaced, if the definitions and the calls are right, and no two
--- definitions have one name
-unfoldable pub expansion : List Word → Option (List Word)
-expansion ts =
-    option_and_then (λ ds. if all_differ (map (λ d. d.name) ds) then limited (texts ts [] ds 0 0) else None) (definitions ts 0)
-
--- `us` is what comes of the tokens
-abbrev pub Expands : List Word → List Word → Type 0
-Expands ts us = expansion ts ≡ Some us
+-- `us` is what comes of the tokens, by these rules: no name is defined twice, and there are no more replacements than there may be
+pub record Expands (ts us : List Word) : Type 0 where
+  pub own : List Inline
+  pub count : ℕ
+  pub leave : Leave [] 0 ts own us count
+  pub apart : all_differ (map (λ (d : Inline). d.name) own) ≡ true
+  pub few : count ≤ MOST_REPLACED
 
 -- `us` is what comes of the tokens, and nothing speaks against it
 pub record IsExpanded (ts us : List Word) : Type 0 where

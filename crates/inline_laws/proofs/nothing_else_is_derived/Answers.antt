@@ -1,4 +1,4 @@
-use Rattle.inline_laws.proofs.Deriving.{are_answered}
+use Rattle.pml_inline.proofs.Deriving.{are_answered}
 use Rattle.inline_laws.proofs.nothing_else_is_derived.Goals as goal
 
 pub returns : goal.returns

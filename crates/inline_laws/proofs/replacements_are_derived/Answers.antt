@@ -1,4 +1,4 @@
-use Rattle.inline_laws.proofs.Deriving.{are_derived}
+use Rattle.pml_inline.proofs.Deriving.{are_derived}
 use Rattle.inline_laws.proofs.replacements_are_derived.Goals as goal
 
 pub returns : goal.returns

@@ -4,13 +4,15 @@ use Rattle.std.proofs.lemmas.List.Elements.{All-same}
 use Rattle.promela_text.specs.Tokens.{IsTooDeep, IsOnLine}
 use Rattle.pml_lex.specs.Rows.{AreOnLines}
 use Rattle.pml_token.specs.Word.{Word}
-use Rattle.promela_text.specs.Inlines.{all_differ, definitions, texts}
+use Rattle.promela_text.specs.Inlines.{all_differ}
+use Rattle.pml_inline.specs.Expansion.{definitions, texts}
 use Rattle.pml_inline.specs.Least.{IsLeast, IsFaultOnLine}
 use Rattle.pml_inline.specs.Places.{words_of}
 use Rattle.pml_inline.specs.Parts.{inlines_of, IsMarked, number_of}
 use Rattle.pml_inline.proofs.Lists.{words-whole, length-places}
 use Rattle.pml_inline.proofs.Whole.{expansion_is, one_result, least_undefined, least_repeated, least_misread, only_memory, line_undefined, line_repeated, line_misread}
 use Rattle.pml_inline.proofs.Keeping.{kept}
+use Rattle.pml_inline.proofs.Expanding.{are_left}
 use Rattle.pml_inline.proofs.expand.Goals as goal
 
 pub definitions-requires-clause-whole : goal.definitions-requires-clause-whole
@@ -86,7 +88,7 @@ returns-in-Some-clause-err c =
     let apart : all_differ (map (λ d. d.name) (inlines_of ts ds)) ≡ true = ap (λ ds. all_differ (map (λ d. d.name) (inlines_of ts ds))) (c.deref-4.ensures.value ∙ sym c.deref-2.ensures.value) ∙ c.in_ok-callees.ensures.apart in
     record {
       given = c.in_ok-expanded.expanded.items;
-      expands = expansion_is ts (inlines_of ts ds) defined apart ∙ c.in_ok-expanded.ensures.ok;
+      expands = are_left ts c.in_ok-expanded.expanded.items (expansion_is ts (inlines_of ts ds) defined apart ∙ c.in_ok-expanded.ensures.ok);
       deep = subst (λ (us : List Word). IsTooDeep us) c.deref-6.ensures.value c.in-Some.ensures.found;
     }
 
@@ -98,7 +100,7 @@ returns-in-Some-clause-only c = λ us x.
     let apart : all_differ (map (λ d. d.name) (inlines_of ts ds)) ≡ true = ap (λ ds. all_differ (map (λ d. d.name) (inlines_of ts ds))) (c.deref-4.ensures.value ∙ sym c.deref-2.ensures.value) ∙ c.in_ok-callees.ensures.apart in
     only_memory ts us _ x (record {
       given = c.in_ok-expanded.expanded.items;
-      expands = expansion_is ts (inlines_of ts ds) defined apart ∙ c.in_ok-expanded.ensures.ok;
+      expands = are_left ts c.in_ok-expanded.expanded.items (expansion_is ts (inlines_of ts ds) defined apart ∙ c.in_ok-expanded.ensures.ok);
       deep = subst (λ (us : List Word). IsTooDeep us) c.deref-6.ensures.value c.in-Some.ensures.found;
     })
 
@@ -109,7 +111,7 @@ returns-clause-ok c =
     let defined : definitions ts 0 ≡ Some (inlines_of ts ds) = c.in_ok-definitions.ensures.ok ∙ ap (λ ds. Some (inlines_of ts ds)) (sym c.deref-4.ensures.value) in
     let apart : all_differ (map (λ d. d.name) (inlines_of ts ds)) ≡ true = ap (λ ds. all_differ (map (λ d. d.name) (inlines_of ts ds))) (c.deref-4.ensures.value ∙ sym c.deref-2.ensures.value) ∙ c.in_ok-callees.ensures.apart in
     record {
-      expands = expansion_is ts (inlines_of ts ds) defined apart ∙ c.in_ok-expanded.ensures.ok;
+      expands = are_left ts c.in_ok-expanded.expanded.items (expansion_is ts (inlines_of ts ds) defined apart ∙ c.in_ok-expanded.ensures.ok);
       shallow = λ deep. c.in_default.ensures.found (subst (λ (us : List Word). IsTooDeep us) (sym c.deref-6.ensures.value) deep);
     }
 
@@ -119,7 +121,7 @@ returns-clause-only c = λ us x.
     let ds = c.deref-4.result.now in
     let defined : definitions ts 0 ≡ Some (inlines_of ts ds) = c.in_ok-definitions.ensures.ok ∙ ap (λ ds. Some (inlines_of ts ds)) (sym c.deref-4.ensures.value) in
     let apart : all_differ (map (λ d. d.name) (inlines_of ts ds)) ≡ true = ap (λ ds. all_differ (map (λ d. d.name) (inlines_of ts ds))) (c.deref-4.ensures.value ∙ sym c.deref-2.ensures.value) ∙ c.in_ok-callees.ensures.apart in
-    one_result ts c.in_ok-expanded.expanded.items us (expansion_is ts (inlines_of ts ds) defined apart ∙ c.in_ok-expanded.ensures.ok) x.expands
+    one_result ts c.in_ok-expanded.expanded.items us (are_left ts c.in_ok-expanded.expanded.items (expansion_is ts (inlines_of ts ds) defined apart ∙ c.in_ok-expanded.ensures.ok)) x.expands
 
 pub returns-in_err-definitions-clause-line : goal.returns-in_err-definitions-clause-line
 returns-in_err-definitions-clause-line c = λ most h.
@@ -142,4 +144,4 @@ returns-in-Some-clause-line c = λ most h.
     let ds = c.deref-4.result.now in
     let defined : definitions ts 0 ≡ Some (inlines_of ts ds) = c.in_ok-definitions.ensures.ok ∙ ap (λ ds. Some (inlines_of ts ds)) (sym c.deref-4.ensures.value) in
     let apart : all_differ (map (λ d. d.name) (inlines_of ts ds)) ≡ true = ap (λ ds. all_differ (map (λ d. d.name) (inlines_of ts ds))) (c.deref-4.ensures.value ∙ sym c.deref-2.ensures.value) ∙ c.in_ok-callees.ensures.apart in
-    c.in-Some.ensures.line most (subst (λ (us : List Word). AreOnLines most us) (sym c.deref-6.ensures.value) (kept (λ w. IsOnLine most w.line) ts c.in_ok-expanded.expanded.items h (expansion_is ts (inlines_of ts ds) defined apart ∙ c.in_ok-expanded.ensures.ok)))
+    c.in-Some.ensures.line most (subst (λ (us : List Word). AreOnLines most us) (sym c.deref-6.ensures.value) (kept (λ w. IsOnLine most w.line) ts c.in_ok-expanded.expanded.items h (are_left ts c.in_ok-expanded.expanded.items (expansion_is ts (inlines_of ts ds) defined apart ∙ c.in_ok-expanded.ensures.ok))))

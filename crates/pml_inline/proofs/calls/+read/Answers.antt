@@ -2,7 +2,7 @@ use Rattle.std.proofs.Common.{rules, true, false, ◌≡◌, ◌∙◌, ◌+◌,
 use Rattle.std.proofs.lemmas.List.{length_push, length-take, length-drop}
 use Rattle.std.proofs.lemmas.List.Elements.{All-same, All-push}
 use Rattle.profile.specs.declared.TheConstants.{MOST_REPLACED}
-use Rattle.promela_text.specs.Inlines.{join_given}
+use Rattle.pml_inline.specs.Expansion.{join_given}
 use Rattle.pml_inline.specs.Places.{words_of}
 use Rattle.pml_inline.specs.Texts.{inlines, option_inline, call_within, read_within, AreNumbers, IsReplaced, IsNotReplaced}
 use Rattle.pml_inline.proofs.Steps.{inline_number, number_is, callee_some, none_of, some_of, at_rest, at_range, past-along, after_token, past_open, past_replacement, past_inside, after_call, read_all, read_done, read_past, on_true, inner, replaced_here, popped}

@@ -1,6 +1,6 @@
 use Rattle.std.proofs.Common.{◌≡◌, ◌≤◌, ◌-◌, length, drop, Some}
 use Rattle.profile.specs.declared.TheConstants.{MOST_CALLS, MOST_REPLACED}
-use Rattle.promela_text.specs.Inlines.{join_given}
+use Rattle.pml_inline.specs.Expansion.{join_given}
 use Rattle.pml_inline.specs.Texts.{read_within, given_of}
 use Rattle.pml_inline.proofs.calls.+read.Given as goal
 

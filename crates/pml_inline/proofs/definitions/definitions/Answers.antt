@@ -2,7 +2,8 @@ use Rattle.std.proofs.Common.{◌≡◌, ◌∙◌, ◌+◌, ◌≤◌, ◌<◌,
 use Rattle.std.proofs.lemmas.List.{map-append, get_or_default}
 use Rattle.std.proofs.lemmas.List.Elements.{All-same, All-push}
 use Rattle.pml_inline.specs.declared.definitions.Definition.{Definition}
-use Rattle.promela_text.specs.Inlines.{is_inline, Inline, definitions}
+use Rattle.promela_text.specs.Inlines.{is_inline, Inline}
+use Rattle.pml_inline.specs.Expansion.{definitions}
 use Rattle.pml_inline.specs.Places.{no_word, word_at}
 use Rattle.pml_inline.specs.Parts.{inline_of, inlines_of, IsMarked, IsDefinition}
 use Rattle.pml_inline.proofs.Lists.{after_inlines, defined_at}

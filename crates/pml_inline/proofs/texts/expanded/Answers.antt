@@ -1,7 +1,8 @@
 use Rattle.std.specs.Prelude.{MatchOption}
 use Rattle.std.proofs.Common.{rules, subst, ◌≡◌, ◌∙◌, ◌+◌, ◌<◌, ◌≤◌, ◌++◌, ◌∷◌, [], true, false, Some, None, ap, sym, get_or, take, drop, length, arith}
 use Rattle.std.proofs.lemmas.List.{get_or_default, get_or-map, drop_all, length-map}
-use Rattle.promela_text.specs.Inlines.{is_inline, Inline, join_given, callee, braces_behind, limited, texts}
+use Rattle.promela_text.specs.Inlines.{is_inline, Inline, callee, braces_behind}
+use Rattle.pml_inline.specs.Expansion.{join_given, limited, texts}
 use Rattle.pml_inline.specs.Places.{no_word, word_at}
 use Rattle.pml_inline.specs.Parts.{inline_of}
 use Rattle.pml_inline.specs.Texts.{given_of, IsWrongCall, IsReadCall, inlines, option_inline}

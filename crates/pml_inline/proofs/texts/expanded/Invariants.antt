@@ -1,6 +1,6 @@
 use Rattle.std.proofs.Common.{◌≡◌, ◌≤◌, ◌-◌, length, drop, take, Some, []}
 use Rattle.profile.specs.declared.TheConstants.{MOST_REPLACED}
-use Rattle.promela_text.specs.Inlines.{definitions, join_given, texts}
+use Rattle.pml_inline.specs.Expansion.{definitions, join_given, texts}
 use Rattle.pml_inline.specs.Texts.{inlines, given_of}
 use Rattle.pml_inline.proofs.texts.expanded.Given as goal
 

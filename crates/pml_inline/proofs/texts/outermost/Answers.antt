@@ -1,7 +1,8 @@
 use Rattle.std.proofs.Common.{rules, ◌≡◌, ◌∙◌, ◌+◌, ◌-◌, ◌<◌, [], true, false, Some, refl, ap, sym, take, drop, length, arith}
 use Rattle.pml_token.specs.declared.token.Kind.TheVariants.{OpenParen, CloseParen}
 use Rattle.profile.specs.declared.TheConstants.{MOST_CALLS}
-use Rattle.promela_text.specs.Inlines.{has_inline, closing, join_given, calling, reading}
+use Rattle.promela_text.specs.Inlines.{has_inline, closing}
+use Rattle.pml_inline.specs.Expansion.{join_given, calling, reading}
 use Rattle.pml_inline.specs.Places.{word_at}
 use Rattle.pml_inline.specs.Texts.{inlines, read_within, given_of}
 use Rattle.pml_inline.proofs.Lists.{over_call}

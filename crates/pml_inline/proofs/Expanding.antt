@@ -5,12 +5,13 @@ use Rattle.std.proofs.lemmas.Bool.Decides.{nat_tests}
 use Rattle.profile.specs.declared.TheConstants.{MOST_CALLS, MOST_REPLACED}
 use Rattle.pml_token.specs.declared.token.Kind.TheVariants.{OpenParen, CloseParen}
 use Rattle.pml_token.specs.Word.{Word}
-use Rattle.promela_text.specs.Inlines.{is_inline, has_inline, is_name, begins_as, closing, Inline, all_differ, definition, definition_turn, definitions, Given, join_given, itself, callee, calling, braces_behind, defined, expansion, limited, outermost_call, text_turn, texts}
+use Rattle.promela_text.specs.Inlines.{is_inline, has_inline, is_name, begins_as, closing, Inline, all_differ, definition, callee, braces_behind}
+use Rattle.pml_inline.specs.Expansion.{definition_turn, definitions, Given, join_given, itself, calling, defined, expansion, limited, outermost_call, text_turn, texts}
 use Rattle.pml_inline.proofs.Words.{by_definitions, define, nothing, counted}
 use Rattle.pml_inline.proofs.Lists.{definitions_passing, over_call}
-use Rattle.inline_laws.specs.Derived.{inside, body_of}
-use Rattle.inline_laws.specs.Expanded.{Leave, nothing_left, stays, is_called, is_defined, IsLeft, ExpansionsAreDerived, DerivedAreExpansions}
-use Rattle.inline_laws.proofs.Deriving.{call_right, are_answered, are_derived, some_is, not_some, join_parts, Replaced, call_is_right}
+use Rattle.promela_text.specs.Inlines.{inside_call, body_with, Leave, none_left, is_left, calls, defines, Expands}
+use Rattle.pml_inline.specs.Expansion.{Gives}
+use Rattle.pml_inline.proofs.Deriving.{call_right, are_answered, are_derived, some_is, not_some, join_parts, Replaced, call_is_right}
 
 -- ---- lists
 
@@ -39,7 +40,7 @@ call_begins known w ws d h = by (is_name w) (begins_as OpenParen ws) _ h
 
 -- the definitions behind a call are those of the text from it on
 over : (known : List Inline) (w : Word) (ws : List Word) (d : Inline) (m : ℕ) → is_inline w ≡ false → callee known w ws ≡ Some d → closing OpenParen CloseParen (drop 1 ws) 0 ≡ Some m
-    → has_inline (inside m ws) ≡ false → definitions (w ∷ ws) 0 ≡ definitions (drop (m + 2) ws) 0
+    → has_inline (inside_call m ws) ≡ false → definitions (w ∷ ws) 0 ≡ definitions (drop (m + 2) ws) 0
 over known w ws d m plain called closed none =
     let some : 0 < length (w ∷ ws) = omega arith in
     let behind : 0 + 3 + m ≡ suc (m + 2) = omega arith in
@@ -49,36 +50,36 @@ over known w ws d m plain called closed none =
 
 -- the definitions are those that are taken out
 own_are : {known own : List Inline} {n c : ℕ} {ts us : List Word} → Leave known n ts own us c → definitions ts 0 ≡ Some own
-own_are nothing_left = refl
-own_are (stays {w = w} {ws = ws} plain none rest) = ap (λ (b : Bool). definition_turn 0 b (definition ws) (definitions ws)) plain ∙ own_are rest
-own_are (is_called {known = known} {m = m} {w = w} {ws = ws} {d = d} plain called closed none right body rest) = over known w ws d m plain called closed none ∙ own_are rest
-own_are (is_defined {w = w} {ws = ws} {d = d} here is rest) =
+own_are none_left = refl
+own_are (is_left {w = w} {ws = ws} plain none rest) = ap (λ (b : Bool). definition_turn 0 b (definition ws) (definitions ws)) plain ∙ own_are rest
+own_are (calls {known = known} {m = m} {w = w} {ws = ws} {d = d} plain called closed none right body rest) = over known w ws d m plain called closed none ∙ own_are rest
+own_are (defines {w = w} {ws = ws} {d = d} here is rest) =
     ap (λ (b : Bool). definition_turn 0 b (definition ws) (definitions ws)) here ∙ ap (λ (o : Option Inline). define o (definitions ws)) is
     ∙ ap (option_map (λ ds. d ∷ ds)) (definitions_passing ws d.size ∙ own_are rest)
 
 left_is : {known own : List Inline} {n c : ℕ} {ts us : List Word} → Leave known n ts own us c → texts ts known own n 0 ≡ Some (record { tokens = us; count = c })
-left_is nothing_left = refl
-left_is (stays {known = known} {own = own} {n = n} {c = c} {w = w} {ws = ws} {us = us} plain none rest) =
+left_is none_left = refl
+left_is (is_left {known = known} {own = own} {n = n} {c = c} {w = w} {ws = ws} {us = us} plain none rest) =
     let same : 0 + c ≡ c = omega arith in
     ap (λ (b : Bool). text_turn 0 b (callee known w ws) w ws (texts ws) known own n 0) plain
     ∙ ap (λ (o : Option Inline). text_turn 0 false o w ws (texts ws) known own n 0) none
     ∙ ap (join_given (itself w)) (left_is rest) ∙ given_is (w ∷ us) (0 + c) c same
-left_is (is_called {known = known} {own = own} {n = n} {m = m} {a = a} {b = b} {w = w} {ws = ws} {us = us} {vs = vs} {d = d} plain called closed none right body rest) =
+left_is (calls {known = known} {own = own} {n = n} {m = m} {a = a} {b = b} {w = w} {ws = ws} {us = us} {vs = vs} {d = d} plain called closed none right body rest) =
     let rest_is : Option Given = texts ws known own n (m + 2) in
     ap (λ (x : Bool). text_turn 0 x (callee known w ws) w ws (texts ws) known own n 0) plain
     ∙ ap (λ (o : Option Inline). text_turn 0 false o w ws (texts ws) known own n 0) called
     ∙ ap (outermost_call (calling known MOST_CALLS [] d) ws (texts ws known own n)) closed
-    ∙ ap (λ (x : Bool). if x then None else join_given (calling known MOST_CALLS [] d (inside m ws)) rest_is) none
+    ∙ ap (λ (x : Bool). if x then None else join_given (calling known MOST_CALLS [] d (inside_call m ws)) rest_is) none
     ∙ ap (λ (o : Option Given). join_given o rest_is)
-    (call_right known (MOST_CALLS - 1) [] d m ws right ∙ ap (join_given (counted (body_of d m ws))) (are_answered known (MOST_CALLS - 1) (d.name ∷ []) (body_of d m ws) us a body))
-    ∙ ap (join_given (Some (record { tokens = us; count = length (body_of d m ws) + a }))) (passing ws known own n (m + 2) ∙ left_is rest)
-left_is (is_defined {known = known} {own = own} {w = w} {ws = ws} {d = d} here is rest) =
+    (call_right known (MOST_CALLS - 1) [] d m ws right ∙ ap (join_given (counted (body_with d m ws))) (are_answered known (MOST_CALLS - 1) (d.name ∷ []) (body_with d m ws) us a body))
+    ∙ ap (join_given (Some (record { tokens = us; count = length (body_with d m ws) + a }))) (passing ws known own n (m + 2) ∙ left_is rest)
+left_is (defines {known = known} {own = own} {w = w} {ws = ws} {d = d} here is rest) =
     ap (λ (x : Bool). text_turn 0 x (callee known w ws) w ws (texts ws) known (d ∷ own) 0 0) here ∙ passing ws (known ++ d ∷ []) own 0 d.size ∙ left_is rest
 
 within : (count : ℕ) → count ≤ MOST_REPLACED → nat_le count MOST_REPLACED ≡ true
 within count few = grind (arith, nat_tests, few)
 
-pub are_expansions : DerivedAreExpansions
+pub are_expansions : (ts us : List Word) → Expands ts us → Gives ts us
 unfolding expansion
 are_expansions ts us h =
     ap (by_definitions ts) (own_are h.leave)
@@ -106,8 +107,8 @@ front_parts (Some d) ws ds e = by (definitions ws d.size) refl e
     by (Some own) is h = (d, own, refl, sym (definitions_passing ws d.size) ∙ is, sym (some_list (d ∷ own) ds h))
 
 -- a call outside all others is right, and what is answered comes of its body
-call_is : (known : List Inline) (d : Inline) (m : ℕ) (ws : List Word) (g : Given) → calling known MOST_CALLS [] d (inside m ws) ≡ Some g → Replaced known MOST_CALLS [] d m ws g
-call_is known d m ws g h = call_is_right known (MOST_CALLS - 1) [] d m ws g (λ x k. are_derived known (MOST_CALLS - 1) (d.name ∷ []) (body_of d m ws) x k) h
+call_is : (known : List Inline) (d : Inline) (m : ℕ) (ws : List Word) (g : Given) → calling known MOST_CALLS [] d (inside_call m ws) ≡ Some g → Replaced known MOST_CALLS [] d m ws g
+call_is known d m ws g h = call_is_right known (MOST_CALLS - 1) [] d m ws g (λ x k. are_derived known (MOST_CALLS - 1) (d.name ∷ []) (body_with d m ws) x k) h
 
 -- what is answered from a place on is derived
 abbrev IsRead : List Word → Type 0
@@ -123,7 +124,7 @@ module _ (w : Word) (ws : List Word) (rest : IsRead ws) (known ds : List Inline)
     where
       outside : (braces : ℕ) (d : Inline) (own' : List Inline) → definition ws ≡ Some d → definitions (drop d.size ws) 0 ≡ Some own' → defined (texts ws) known (d ∷ own') braces ≡ Some g
           → Leave known braces (w ∷ ws) (d ∷ own') g.tokens g.count
-      outside zero d own' is behind e = is_defined here is (rest d.size (known ++ d ∷ []) own' 0 g behind e)
+      outside zero d own' is behind e = defines here is (rest d.size (known ++ d ∷ []) own' 0 g behind e)
       outside (suc m) d own' is behind e = absurd (not_some g e)
 
   at_token : is_inline w ≡ false → callee known w ws ≡ None → definitions (w ∷ ws) 0 ≡ Some ds → join_given (itself w) (texts ws known ds (braces_behind n w) 0) ≡ Some g
@@ -136,21 +137,21 @@ module _ (w : Word) (ws : List Word) (rest : IsRead ws) (known ds : List Inline)
       ap (λ (x : Given). record { tokens = x.tokens ++ parts.1.tokens; count = x.count + parts.1.count }) first ∙ sym parts.4 in
       let behind : definitions ws 0 ≡ Some ds = sym (ap (λ (b : Bool). definition_turn 0 b (definition ws) (definitions ws)) plain) ∙ own in
       subst (λ (y : Given). Leave known n (w ∷ ws) ds y.tokens y.count) is
-      (subst (λ (c : ℕ). Leave known n (w ∷ ws) ds (w ∷ parts.1.tokens) c) (sym same) (stays plain none (rest 0 known ds (braces_behind n w) parts.1 behind parts.3)))
+      (subst (λ (c : ℕ). Leave known n (w ∷ ws) ds (w ∷ parts.1.tokens) c) (sym same) (is_left plain none (rest 0 known ds (braces_behind n w) parts.1 behind parts.3)))
 
   at_call : (d : Inline) → is_inline w ≡ false → callee known w ws ≡ Some d → definitions (w ∷ ws) 0 ≡ Some ds → (o : Option ℕ) → closing OpenParen CloseParen (drop 1 ws) 0 ≡ o
       → outermost_call (calling known MOST_CALLS [] d) ws (texts ws known ds n) o ≡ Some g → Leave known n (w ∷ ws) ds g.tokens g.count
   at_call d plain called own None closed h = absurd (not_some g h)
-  at_call d plain called own (Some m) closed h = by (has_inline (inside m ws)) refl h
+  at_call d plain called own (Some m) closed h = by (has_inline (inside_call m ws)) refl h
     where
-      by : (b : Bool) → has_inline (inside m ws) ≡ b → (if b then None else join_given (calling known MOST_CALLS [] d (inside m ws)) (texts ws known ds n (m + 2))) ≡ Some g
+      by : (b : Bool) → has_inline (inside_call m ws) ≡ b → (if b then None else join_given (calling known MOST_CALLS [] d (inside_call m ws)) (texts ws known ds n (m + 2))) ≡ Some g
           → Leave known n (w ∷ ws) ds g.tokens g.count
       by true inner e = absurd (not_some g e)
       by false inner e =
-          let parts = join_parts (calling known MOST_CALLS [] d (inside m ws)) (texts ws known ds n (m + 2)) g e in
+          let parts = join_parts (calling known MOST_CALLS [] d (inside_call m ws)) (texts ws known ds n (m + 2)) g e in
           let right = call_is known d m ws parts.0 parts.2 in
           let behind : definitions (drop (m + 2) ws) 0 ≡ Some ds = sym (over known w ws d m plain called closed inner) ∙ own in
-          let whole = is_called plain called closed inner right.0 right.1.1 (rest (m + 2) known ds n parts.1 behind parts.3) in
+          let whole = calls plain called closed inner right.0 right.1.1 (rest (m + 2) known ds n parts.1 behind parts.3) in
           subst (λ (y : Given). Leave known n (w ∷ ws) ds y.tokens y.count) (sym parts.4)
           (subst (λ (c : ℕ). Leave known n (w ∷ ws) ds (parts.0.tokens ++ parts.1.tokens) (c + parts.1.count)) (sym right.1.2) whole)
 
@@ -168,7 +169,7 @@ module _ (w : Word) (ws : List Word) (rest : IsRead ws) (known ds : List Inline)
 at_end : (known ds : List Inline) (n : ℕ) (g : Given) → Some [] ≡ Some ds → nothing ≡ Some g → Leave known n [] ds g.tokens g.count
 at_end known ds n g own h =
     let is : record { tokens = []; count = 0 } ≡ g = some_is _ g h in
-    subst (λ (l : List Inline). Leave known n [] l g.tokens g.count) (some_list [] ds own) (subst (λ (y : Given). Leave known n [] [] y.tokens y.count) is nothing_left)
+    subst (λ (l : List Inline). Leave known n [] l g.tokens g.count) (some_list [] ds own) (subst (λ (y : Given). Leave known n [] [] y.tokens y.count) is none_left)
 
 read : (ts : List Word) → IsRead ts
 read [] zero known ds n g own h = at_end known ds n g own h
@@ -188,11 +189,11 @@ limit_parts (Some g) us h = by (nat_le g.count MOST_REPLACED) refl h
     by true few e = (g, refl, (let same : g.tokens ≡ us = cc in same), few_are g.count few)
     by false few e = cc
 
-pub are_left : ExpansionsAreDerived
+pub are_left : (ts us : List Word) → Gives ts us → Expands ts us
 unfolding expansion
 are_left ts us h = by (definitions ts 0) refl h
   where
-    by_names : (ds : List Inline) → definitions ts 0 ≡ Some ds → (b : Bool) → all_differ (map (λ (d : Inline). d.name) ds) ≡ b → (if b then limited (texts ts [] ds 0 0) else None) ≡ Some us → IsLeft ts us
+    by_names : (ds : List Inline) → definitions ts 0 ≡ Some ds → (b : Bool) → all_differ (map (λ (d : Inline). d.name) ds) ≡ b → (if b then limited (texts ts [] ds 0 0) else None) ≡ Some us → Expands ts us
     by_names ds own true apart e =
         let parts = limit_parts (texts ts [] ds 0 0) us e in
         record {
@@ -204,6 +205,6 @@ are_left ts us h = by (definitions ts 0) refl h
         }
     by_names ds own false apart e = cc
 
-    by : (o : Option (List Inline)) → definitions ts 0 ≡ o → by_definitions ts o ≡ Some us → IsLeft ts us
+    by : (o : Option (List Inline)) → definitions ts 0 ≡ o → by_definitions ts o ≡ Some us → Expands ts us
     by None own e = cc
     by (Some ds) own e = by_names ds own (all_differ (map (λ (d : Inline). d.name) ds)) refl e
