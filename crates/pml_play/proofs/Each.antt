@@ -106,12 +106,12 @@ tokens_or : (text : List ℕ) → ((ts : List Word) × AreTokens text ts) ⊎ Re
 tokens_or text = by_length (cases_lt MOST_TEXT_BYTES (length text))
   where
     by_words : length text ≤ MOST_TEXT_BYTES → (ts : List Word) → IsCut text ts → (b : Bool) → has_left_out ts ≡ b → ((us : List Word) × AreTokens text us) ⊎ Refusals text
-    by_words short ts cut true e = inr (r.LeftOut, 1, left_out (record { short = short; tokens = ts; are_cut = cut; left_out = e; on_line = first_line text }))
+    by_words short ts cut true e = inr (r.LeftOut, 1, left_out short cut e (first_line text))
     by_words short ts cut false e = inl (ts, record { short = short; are_cut = cut; all_served = e })
 
     by_cut : length text ≤ MOST_TEXT_BYTES → ((ts : List Word) × IsCut text ts) ⊎ IsUncut text → ((us : List Word) × AreTokens text us) ⊎ Refusals text
     by_cut short (inl h) = by_words short h.0 h.1 (has_left_out h.0) refl
-    by_cut short (inr never) = inr (r.Lexical, 1, lexical (record { short = short; never = never; on_line = first_line text }))
+    by_cut short (inr never) = inr (r.Lexical, 1, lexical short never (first_line text))
 
     by_length : (MOST_TEXT_BYTES < length text) ⊎ (length text ≤ MOST_TEXT_BYTES) → ((us : List Word) × AreTokens text us) ⊎ Refusals text
     by_length (inl long) = inr (r.TextTooLong, 0, too_long long)

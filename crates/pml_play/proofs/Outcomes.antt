@@ -7,7 +7,8 @@ use Rattle.promela_session.specs.declared.ends.End.{End}
 use Rattle.promela_session.specs.Events.{Part}
 use Rattle.promela_session.specs.Session.{refused, transcript}
 use Rattle.pml_token.specs.Word.{Word}
-use Rattle.promela_text.specs.Tokens.{has_left_out, IsTooDeep, AreTokens, CannotBeCut, HoldsLeftOut}
+use Rattle.promela_text.specs.Tokens.{has_left_out, IsTooDeep, AreTokens}
+use Rattle.pml_lex.specs.Divided.{CannotBeCut, HoldsLeftOut}
 use Rattle.profile.specs.declared.TheConstants.{MOST_TEXT_BYTES}
 use Rattle.pml_lex.proofs.Steps.{one_list}
 use Rattle.promela_text.specs.Inlines.{Expands}

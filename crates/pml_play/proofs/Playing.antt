@@ -49,8 +49,8 @@ use Rattle.promela_session.specs.declared.form.Stream.TheVariants.{Unread}
 pub rejected_lexical : (text : List ℕ) (fault : LexError) → IsLeast text fault → IsRejected text (of_lexical fault)
 rejected_lexical text lex.Memory h = tt
 rejected_lexical text lex.TooLong h = too_long h
-rejected_lexical text (lex.Lexical line) h = lexical h
-rejected_lexical text (lex.LeftOut line) h = left_out h
+rejected_lexical text (lex.Lexical line) h = lexical h.short h.never h.on_line
+rejected_lexical text (lex.LeftOut line) h = left_out h.short h.are_cut h.left_out h.on_line
 
 -- what comes of tokens on lines of the text is on lines of it
 expanded_lines : (text : List ℕ) (us : List Word) → AreExpanded text us → AreOnLines (line_behind text) us

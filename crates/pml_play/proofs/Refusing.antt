@@ -4,7 +4,8 @@ use Rattle.profile.specs.declared.TheConstants.{MOST_TEXT_BYTES}
 use Rattle.diagnostics.specs.declared.refusal.Refusal.{Refusal}
 use Rattle.diagnostics.specs.declared.refusal.Refusal.TheVariants as r
 use Rattle.pml_token.specs.Word.{Word}
-use Rattle.promela_text.specs.Tokens.{IsLine, AreTokens, CannotBeCut, HoldsLeftOut}
+use Rattle.promela_text.specs.Tokens.{IsLine, AreTokens}
+use Rattle.pml_lex.specs.Divided.{CannotBeCut, HoldsLeftOut}
 use Rattle.promela_text.specs.Inlines.{Expands, GoesTooDeep}
 use Rattle.pml_tree.specs.declared.tree.Tree.{Tree}
 use Rattle.promela_grammar.specs.Models.{Spells}
@@ -50,8 +51,8 @@ pub data Refuses (text : List ℕ) : Refusal → ℕ → Type 0 where
 
 pub reason : {t : List ℕ} {x : Refusal} {line : ℕ} → IsRefused t x line → Refuses t x line
 reason (told.too_long h) = too_long h
-reason (told.lexical h) = lexical h
-reason (told.left_out h) = left_out h
+reason (told.lexical short never on) = lexical (record { short = short; never = never; on_line = on })
+reason (told.left_out {tokens} short are left on) = left_out (record { short = short; tokens = tokens; are_cut = are; left_out = left; on_line = on })
 reason (told.inline {tokens} are none) = inline (record { tokens = tokens; are_tokens = are; none = none })
 reason (told.too_deep {tokens} are deep on) = too_deep (record { tokens = tokens; are_tokens = are; deep = deep; on_line = on })
 reason (told.unspelled {expanded} are none on) = unspelled (record { expanded = expanded; are_expanded = are; none = none; on_line = on })
@@ -59,8 +60,8 @@ reason (told.unfit {tree} is least) = unfit (record { tree = tree; is_spelled = 
 
 pub refused_by : {t : List ℕ} {x : Refusal} {line : ℕ} → Refuses t x line → IsRefused t x line
 refused_by (too_long h) = told.too_long h
-refused_by (lexical h) = told.lexical h
-refused_by (left_out h) = told.left_out h
+refused_by (lexical h) = told.lexical h.short h.never h.on_line
+refused_by (left_out h) = told.left_out h.short h.are_cut h.left_out h.on_line
 refused_by (inline h) = told.inline h.are_tokens h.none
 refused_by (too_deep h) = told.too_deep h.are_tokens h.deep h.on_line
 refused_by (unspelled h) = told.unspelled h.are_expanded h.none h.on_line

@@ -1,6 +1,6 @@
 -- What a text stands for: a refusal, or a model; the session over it; what playing it answers, and what converting its choices does.
 -- Hold it against docs/FORMATS.md; docs/REFUSALS.md.
-use Rattle.std.specs.Prelude.{◌≡◌, ℕ, List, ◌<◌, Bool, length, Ok, ◌≢◌}
+use Rattle.std.specs.Prelude.{◌≡◌, ℕ, List, ◌<◌, Bool, length, Ok, ◌≢◌, ◌≤◌, true}
 use Rattle.devices.specs.Holdings.{Holdings}
 use Rattle.promela_session.specs.declared.ends.Options.{Options}
 use Rattle.promela_session.specs.declared.ends.End.{End}
@@ -12,7 +12,7 @@ use Rattle.diagnostics.specs.declared.refusal.Refusal.TheVariants as r
 use Rattle.promela_session.specs.Session.{refused, transcript, only_this, end_of}
 use Rattle.pml_token.specs.Word.{Word}
 use Rattle.profile.specs.declared.TheConstants.{MOST_TEXT_BYTES}
-use Rattle.promela_text.specs.Tokens.{IsLine, AreTokens, CannotBeCut, HoldsLeftOut}
+use Rattle.promela_text.specs.Tokens.{has_left_out, IsCut, IsLine, AreTokens}
 use Rattle.promela_text.specs.Inlines.{Expands, IsExpanded, GoesTooDeep}
 use Rattle.pml_tree.specs.declared.tree.Tree.{Tree}
 use Rattle.promela_grammar.specs.Models.{Spells}
@@ -50,8 +50,11 @@ pub record IsModel (text : List ℕ) (lossy : Bool) (state : Running) : Type 0 w
 -- The text is refused so, and the refusal has this line: one of the text's, or 0 where it has none.
 pub data IsRefused (text : List ℕ) : Refusal → ℕ → Type 0 where
   too_long : MOST_TEXT_BYTES < length text → IsRefused text r.TextTooLong 0
-  lexical : {line : ℕ} → CannotBeCut text line → IsRefused text r.Lexical line
-  left_out : {line : ℕ} → HoldsLeftOut text line → IsRefused text r.LeftOut line
+  -- the text is short enough, and no list of tokens is what it cuts into
+  lexical : {line : ℕ} → length text ≤ MOST_TEXT_BYTES → ((tokens : List Word) → IsCut text tokens → ⊥) → IsLine text line → IsRefused text r.Lexical line
+  -- the text cuts into tokens, one of which is left out of the language
+  left_out : {tokens : List Word} {line : ℕ} → length text ≤ MOST_TEXT_BYTES → IsCut text tokens → has_left_out tokens ≡ true → IsLine text line
+      → IsRefused text r.LeftOut line
   -- the text has tokens, and nothing comes of them
   inline : {tokens : List Word} → AreTokens text tokens → ((expanded : List Word) → Expands tokens expanded → ⊥) → IsRefused text r.Inline 0
   -- what comes of the text's tokens is too deep

@@ -62,7 +62,7 @@ quoted escaped (b ∷ q) =
     else (if b == quote then is_empty q
     else quoted (b == backslash) q))
 
--- a decimal digit stands behind spaces and tabs
+-- a space or a tab
 abbrev pub is_space : ℕ → Bool
 is_space b = b == space || b == tab
 
@@ -220,17 +220,3 @@ pub record AreTokens (text : List ℕ) (ts : List Word) : Type 0 where
   pub short : length text ≤ MOST_TEXT_BYTES
   pub are_cut : IsCut text ts
   pub all_served : has_left_out ts ≡ false
-
--- the text is short enough, and no list of tokens is what it cuts into
-pub record CannotBeCut (text : List ℕ) (line : ℕ) : Type 0 where
-  pub short : length text ≤ MOST_TEXT_BYTES
-  pub never : (ts : List Word) → IsCut text ts → ⊥
-  pub on_line : IsLine text line
-
--- the text cuts into tokens, one of which is left out of the language
-pub record HoldsLeftOut (text : List ℕ) (line : ℕ) : Type 0 where
-  pub short : length text ≤ MOST_TEXT_BYTES
-  pub tokens : List Word
-  pub are_cut : IsCut text tokens
-  pub left_out : has_left_out tokens ≡ true
-  pub on_line : IsLine text line
