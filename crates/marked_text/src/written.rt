@@ -1,6 +1,7 @@
 //! The text of tokens that keep their places.
 
 ghost use Rattle.std.specs.Prelude.{◌≡◌, ◌≤◌, max, OnOk, IfOk};
+ghost use Rattle.marked_text.specs.Blanks as blank;
 ghost use Rattle.marked_text.specs.Writes.{spot, names, at, Goes, Went, StandsAt, WritesAll};
 
 use crate::pen::{OWN, Pen, add_mark};
@@ -20,7 +21,9 @@ pub struct Sources<'s> {
     pub homes: &'s [u32],
 }
 
-fn home_of(homes: &[u32], file: u32) -> u32 {
+fn home_of(homes: &[u32], file: u32) -> u32
+    ensures { result ≡ blank.home_of homes.now file }
+{
     let number = file as usize;
     if number < homes.len() {
         homes[number]
@@ -71,18 +74,24 @@ fn go_to(
 }
 
 /// Whether a place is in a file so many bytes behind another.
-fn is_behind(place: FilePlace, other: FilePlace, bytes: usize) -> bool {
+fn is_behind(place: FilePlace, other: FilePlace, bytes: usize) -> bool
+    ensures { result ≡ blank.is_behind place other bytes }
+{
     place.file == other.file
         && place.offset as usize == (other.offset as usize).saturating_add(bytes)
 }
 
 /// Whether a token stands for itself: it comes of no call.
-fn is_own(atom: &Atom) -> bool {
+fn is_own(atom: &Atom) -> bool
+    ensures { result ≡ blank.is_own atom.now }
+{
     atom.place == atom.call
 }
 
 /// Whether a token stands directly behind another in their file.
-fn adjoins(book: &Book, last: Option<Atom>, atom: &Atom) -> bool {
+fn adjoins(book: &Book, last: Option<Atom>, atom: &Atom) -> bool
+    ensures { result ≡ blank.adjoins book.now last atom.now }
+{
     match last {
         Some(last) => {
             is_own(&last)
@@ -94,7 +103,9 @@ fn adjoins(book: &Book, last: Option<Atom>, atom: &Atom) -> bool {
 }
 
 /// How many blanks stand before a token that is the first of its line: those that its line has there, and one at least before a `#`.
-fn indent(text: &[u8], place: FilePlace) -> u32 {
+fn indent(text: &[u8], place: FilePlace) -> u32
+    ensures { result ≡ blank.indent text.now place }
+{
     let blanks = place.column.saturating_sub(1).min(MOST_BLANKS);
     match text {
         [b'#', ..] => blanks.max(1),
@@ -103,7 +114,9 @@ fn indent(text: &[u8], place: FilePlace) -> u32 {
 }
 
 /// How many blanks stand before a token, where the text is at its line.
-fn blanks_before(book: &Book, last: Option<Atom>, atom: &Atom, is_fresh: bool) -> u32 {
+fn blanks_before(book: &Book, last: Option<Atom>, atom: &Atom, is_fresh: bool) -> u32
+    ensures { result ≡ blank.blanks_before book.now last atom.now is_fresh }
+{
     if is_fresh {
         indent(book.text(atom.text), atom.call)
     } else if adjoins(book, last, atom) {

@@ -1,6 +1,7 @@
 //! Files on the disk, by the names that `#include` gives them.
 
-ghost use Rattle.std.specs.Prelude.{◌≤◌, length};
+ghost use Rattle.std.specs.Prelude.{◌≡◌, ◌≤◌, length, IfOk, IfSome};
+ghost use Rattle.prepared.specs.Names as names;
 
 use pml_directives::files::{Files, FoundFile};
 use std::alloc::{AllocError, Global};
@@ -59,7 +60,9 @@ fn beside(alloc: Global, from: &[u8], name: &[u8]) -> Result<Vec<u8>, AllocError
 }
 
 // A name in a folder.
-fn within(alloc: Global, folder: &str, name: &[u8]) -> Result<Vec<u8>, AllocError> {
+fn within(alloc: Global, folder: &str, name: &[u8]) -> Result<Vec<u8>, AllocError>
+    ensures { IfOk result (λ v. v.items ≡ names.within folder.now name.now) }
+{
     let mut whole = Vec::new(alloc);
     whole.extend_from_slice(folder.as_bytes())?;
     whole.push(b'/')?;
@@ -69,7 +72,9 @@ fn within(alloc: Global, folder: &str, name: &[u8]) -> Result<Vec<u8>, AllocErro
 
 impl<'r> Disk<'r> {
     // The name by which a file is found that is called so.
-    fn name_of<'n>(&'n self, called: &'n [u8]) -> &'n [u8] {
+    fn name_of<'n>(&'n self, called: &'n [u8]) -> &'n [u8]
+        ensures { result.now ≡ names.found_by self.now.own.now self.now.called.now called.now }
+    {
         if called == self.called.as_bytes() {
             self.own.as_bytes()
         } else {
@@ -78,7 +83,9 @@ impl<'r> Disk<'r> {
     }
 
     // The file of a whole name.
-    fn found(&self, name: Vec<u8>) -> Option<FoundFile> {
+    fn found(&self, name: Vec<u8>) -> Option<FoundFile>
+        ensures { IfSome result (λ f. f.name ≡ name) }
+    {
         match bytes_of(self.rt, &name) {
             Some(text) => Some(FoundFile { name, text }),
             None => None,

@@ -1,5 +1,8 @@
 //! The macros and folders that a command line gives.
 
+ghost use Rattle.std.specs.Prelude.{◌≡◌, ◌++◌, ◌∷◌, [], map, IfOk, OnOk, string_bytes};
+ghost use Rattle.prepared.specs.Given as as_given;
+
 use crate::unprepared::Unprepared;
 use std::alloc::{AllocError, Global};
 
@@ -21,28 +24,39 @@ pub struct MacroOption<'w> {
     pub value: &'w str,
 }
 
-fn is_name_byte(b: u8) -> bool {
+fn is_name_byte(b: u8) -> bool
+    ensures { result ≡ as_given.is_name_byte b }
+{
     b.is_ascii_alphanumeric() || b == b'_'
 }
 
+// Whether a name goes on, to its end or to a `=` or `(`.
+fn goes_on(bytes: &[u8]) -> bool
+    ensures { result ≡ as_given.goes_on bytes.now }
+{
+    let mut rest = bytes;
+    while let [b, others @ ..] = rest {
+        if *b == b'=' || *b == b'(' {
+            return true;
+        }
+        if !is_name_byte(*b) {
+            return false;
+        }
+        rest = others;
+    }
+    true
+}
+
 // Whether a macro's name stands before the first `=` or `(`.
-fn has_name(value: &str) -> bool {
-    match value.as_bytes() {
+fn has_name(value: &[u8]) -> bool
+    ensures { result ≡ as_given.has_name value.now }
+{
+    match value {
         [] => false,
         [b'0'..=b'9', ..] => false,
         [b'=', ..] => false,
         [b'(', ..] => false,
-        bytes => {
-            for b in bytes {
-                if *b == b'=' || *b == b'(' {
-                    return true;
-                }
-                if !is_name_byte(*b) {
-                    return false;
-                }
-            }
-            true
-        }
+        _ => goes_on(value),
     }
 }
 
@@ -71,7 +85,7 @@ pub fn add_line(
     valued: MacroOption<'_>,
 ) -> Result<(), Unprepared> {
     let value = valued.value;
-    if !has_name(value) || (valued.letter == 'U' && value.contains('=')) || value.contains('\n') {
+    if !has_name(value.as_bytes()) || (valued.letter == 'U' && value.contains('=')) || value.contains('\n') {
         let word = format!(in alloc;
             "-{} wants the name of a macro, and '{value}' has none",
             valued.letter
@@ -89,7 +103,9 @@ pub fn add_line(
 }
 
 /// Adds a folder of `-I`.
-pub fn add_folder(alloc: Global, folders: &mut Vec<String>, value: &str) -> Result<(), Unprepared> {
+pub fn add_folder(alloc: Global, folders: &mut Vec<String>, value: &str) -> Result<(), Unprepared>
+    ensures { OnOk result (map string_bytes folders.new.items ≡ map string_bytes folders.old.items ++ value.now ∷ []) }
+{
     if value.is_empty() {
         return Err(Unprepared::Odd(String::from_str(alloc, "-I wants a folder")?));
     }

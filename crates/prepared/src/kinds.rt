@@ -1,5 +1,8 @@
 //! What is to be said, by kinds: each with the lines that it has in the text.
 
+ghost use Rattle.std.specs.Prelude.{◌≡◌};
+ghost use Rattle.prepared.specs.Kinds as rules;
+
 use crate::report::Called;
 use crate::shown::{shown, shown_name};
 use std::alloc::{AllocError, Global};
@@ -146,7 +149,9 @@ impl<'t> Kind<'t> {
 }
 
 // The word by which a kind is known: of a line for a preprocessor its first word, and of bytes, characters and blanked subtypes none.
-fn key(what: Topic, word: &[u8]) -> &[u8] {
+fn key(what: Topic, word: &[u8]) -> &[u8]
+    ensures { result.now ≡ rules.key what word.now }
+{
     match what {
         Topic::Apostrophe | Topic::Bytes | Topic::Subtypes | Topic::Stepped | Topic::Valued => b"",
         _ => match word {
@@ -157,14 +162,18 @@ fn key(what: Topic, word: &[u8]) -> &[u8] {
 }
 
 // Whether a byte is of `#` and the word behind it.
-fn is_of_directive(byte: u8) -> bool {
+fn is_of_directive(byte: u8) -> bool
+    ensures { result ≡ rules.is_of_directive byte }
+{
     byte == b'#' || byte.is_ascii_alphabetic()
 }
 
 // `#` and the word behind it.
-fn directive(line: &[u8]) -> &[u8] {
-    match line.split(|byte| !is_of_directive(*byte)).next() {
-        Some(front) => front,
+fn directive(line: &[u8]) -> &[u8]
+    ensures { result.now ≡ rules.directive line.now }
+{
+    match line.iter().position(|byte| !is_of_directive(*byte)) {
+        Some(end) => &line[..end],
         None => line,
     }
 }

@@ -1,5 +1,8 @@
 //! What is said of a text that the preprocessor refuses, and of what it passes.
 
+ghost use Rattle.std.specs.Prelude.{◌≡◌, ◌++◌, ◌-◌, OnOk, string_bytes};
+ghost use Rattle.prepared.specs.Refused as as_refused;
+
 use crate::disk::bytes_of;
 use crate::shown::{shown, shown_name};
 use crate::unprepared::Unprepared;
@@ -65,7 +68,9 @@ fn words_of_call(alloc: Global, state: &State, trouble: Trouble) -> Result<Strin
 }
 
 // The token that is wrong, where that is a call.
-fn atom_of(why: Why) -> Option<Atom> {
+fn atom_of(why: Why) -> Option<Atom>
+    ensures { result ≡ as_refused.atom_of why }
+{
     match why {
         Why::Call(Trouble::Open(atom)) => Some(atom),
         Why::Call(Trouble::Arguments(atom, _)) => Some(atom),
@@ -95,7 +100,9 @@ fn add_own_place(
 }
 
 // The line of a place, with a mark below it.
-fn add_line(text: &[u8], place: FilePlace, out: &mut String) -> Result<(), AllocError> {
+fn add_line(text: &[u8], place: FilePlace, out: &mut String) -> Result<(), AllocError>
+    ensures { OnOk result (string_bytes out.new ≡ string_bytes out.old ++ as_refused.line_told text.now place) }
+{
     let offset = place.offset as usize;
     let line = line_of(text, offset);
     let onset = offset.saturating_sub(line.start);

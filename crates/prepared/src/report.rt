@@ -1,6 +1,7 @@
 //! What is said on standard error: which blocks are blanked, and what is left as it is, a line for each kind with all its places.
 
-ghost use Rattle.std.specs.Prelude.{◌≤◌, length};
+ghost use Rattle.std.specs.Prelude.{◌≡◌, ◌≤◌, length};
+ghost use Rattle.prepared.specs.Kinds as rules;
 
 use crate::kinds::{Kinds, Topic};
 use prepare::changed::Changed;
@@ -50,7 +51,9 @@ fn feeds(text: &[u8]) -> u64
 }
 
 // What kind of thing a token is that is left out.
-fn left_out(token: &[u8]) -> Topic {
+fn left_out(token: &[u8]) -> Topic
+    ensures { result ≡ rules.left_out token.now }
+{
     match token {
         [b'\'', ..] => Topic::Apostrophe,
         [b, ..] if *b < b' ' || *b > b'~' => Topic::Bytes,
@@ -149,7 +152,9 @@ impl<'t> PreparingReport<'t> {
     }
 
     /// Whether loops are left by what was read.
-    pub fn has_loops(&self) -> bool {
+    pub fn has_loops(&self) -> bool
+        ensures { result ≡ rules.has_loops self.now }
+    {
         self.has_loops
     }
 
