@@ -1,5 +1,8 @@
 //! What is open at a token.
 
+ghost use Rattle.std.specs.Prelude.{◌≡◌, ◌≤◌, ◌-◌, length, slice_get, IfSome};
+ghost use Rattle.explain_cause.specs.Places as specified;
+
 use crate::place::{closer_of, closes, from, kind_at, opens};
 use pml_token::token::{Token, same_kind};
 use std::alloc::{AllocError, Global};
@@ -25,15 +28,19 @@ pub fn open_before(
 }
 
 /// The innermost of these.
-pub fn innermost(open: &[usize]) -> Option<usize> {
-    match open {
+pub fn innermost(places: &[usize]) -> Option<usize>
+    ensures { result ≡ slice_get places.now (length places.now - 1) }
+{
+    match places {
         [] => None,
         [.., last] => Some(*last),
     }
 }
 
 /// The token that closes what the token at `start` opens, by counting what opens and what closes.
-pub fn closing(tokens: &[Token<'_>], start: usize) -> Option<usize> {
+pub fn closing(tokens: &[Token<'_>], start: usize) -> Option<usize>
+    ensures { IfSome result (λ end. start ≤ end) }
+{
     let mut depth = 0usize;
     for (i, token) in from(tokens, start).iter().enumerate() {
         if opens(token.kind()) {
@@ -49,6 +56,8 @@ pub fn closing(tokens: &[Token<'_>], start: usize) -> Option<usize> {
 }
 
 /// Whether the token at `at` closes what the one at `opener` opens.
-pub fn fits(tokens: &[Token<'_>], opener: usize, at: usize) -> bool {
+pub fn fits(tokens: &[Token<'_>], opener: usize, at: usize) -> bool
+    ensures { result ≡ specified.fits tokens.now opener at }
+{
     same_kind(closer_of(kind_at(tokens, opener)), kind_at(tokens, at))
 }

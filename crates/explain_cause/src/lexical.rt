@@ -1,12 +1,19 @@
 //! Texts without tokens, words that are left out, and texts that are too deep.
 
+ghost use Rattle.std.specs.Prelude.{◌≡◌, ◌≤◌, ◌+◌, length, drop, true, option_map, None, IfSome};
+ghost use Rattle.explain_cause.specs.Places as places;
+ghost use Rattle.explain_cause.specs.Texts as texts;
+
 use crate::cause::{Finding, Named, Reason, Segment, TextCause};
 use crate::place::{at_place, at_token, closes, is_at, named, opens};
 use pml_token::token::{Kind, Token, same_kind};
 use std::str;
 
 /// Of a text that is too long.
-pub fn too_long(text: &[u8]) -> Finding<'_> {
+pub fn too_long(text: &[u8]) -> Finding<'_>
+    ensures place { result.place ≡ None }
+    ensures cause { texts.is_text result.cause ≡ true }
+{
     Finding {
         place: None,
         cause: Reason::Text(TextCause::TooLong(text.len())),
@@ -51,7 +58,9 @@ enum Within {
 }
 
 /// What stands behind a byte of code, which stands behind another one at a place.
-fn behind_code(before: u8, byte: u8, at: usize) -> Within {
+fn behind_code(before: u8, byte: u8, at: usize) -> Within
+    ensures { result ≡ texts.behind_code before byte at }
+{
     match byte {
         b'"' => Within::Text,
         b'\'' => Within::Quote(at),
@@ -62,7 +71,9 @@ fn behind_code(before: u8, byte: u8, at: usize) -> Within {
 }
 
 /// What stands behind a byte at a place.
-fn behind(within: Within, before: u8, byte: u8, at: usize) -> Within {
+fn behind(within: Within, before: u8, byte: u8, at: usize) -> Within
+    ensures { result ≡ texts.behind within before byte at }
+{
     let ends = match within {
         Within::Code => return behind_code(before, byte, at),
         Within::Opening => return Within::Block,
@@ -91,7 +102,9 @@ fn open_quote(text: &[u8], offset: usize) -> Option<usize> {
 }
 
 /// The byte in front of a place, or a blank where there is none.
-fn byte_before(text: &[u8], offset: usize) -> u8 {
+fn byte_before(text: &[u8], offset: usize) -> u8
+    ensures { result ≡ places.byte_before text.now offset }
+{
     match offset.checked_sub(1) {
         Some(before) => match text.get(before) {
             Some(byte) => *byte,
@@ -102,7 +115,9 @@ fn byte_before(text: &[u8], offset: usize) -> u8 {
 }
 
 /// The text from a place on.
-fn rest_of(text: &[u8], offset: usize) -> &[u8] {
+fn rest_of(text: &[u8], offset: usize) -> &[u8]
+    ensures { result.now ≡ drop offset text.now }
+{
     if offset <= text.len() {
         &text[offset..]
     } else {
@@ -152,12 +167,17 @@ fn about_left_out<'t>(text: &'t [u8], token: &Token<'t>) -> TextCause<'t> {
 }
 
 /// Whether a text begins with so many bytes that are UTF-8.
-fn begins_with_character(rest: &[u8], length: usize) -> bool {
-    length <= rest.len() && str::from_utf8(&rest[..length]).is_ok()
+fn begins_with_character(rest: &[u8], count: usize) -> bool
+    ensures { result ≡ true → count ≤ length rest.now }
+{
+    count <= rest.len() && str::from_utf8(&rest[..count]).is_ok()
 }
 
 /// How many bytes of a text that cannot be cut are shown: one character, or what begins a comment.
-fn shown_length(rest: &[u8]) -> usize {
+fn shown_length(rest: &[u8]) -> usize
+    ensures least { 1 ≤ result }
+    ensures most { result ≤ 4 }
+{
     if let [b'/', _, ..] = rest {
         return 2;
     }
@@ -170,7 +190,9 @@ fn shown_length(rest: &[u8]) -> usize {
 }
 
 /// Of a text that cannot be cut behind so many bytes.
-pub fn uncut(text: &[u8], offset: usize) -> Finding<'_> {
+pub fn uncut(text: &[u8], offset: usize) -> Finding<'_>
+    ensures { texts.is_text result.cause ≡ true }
+{
     if offset > text.len() {
         return crate::place::untold();
     }
@@ -198,7 +220,10 @@ fn is_conjunction(text: &[u8], offset: usize) -> bool {
 }
 
 /// The first token that is left out.
-pub fn left_out<'t>(text: &'t [u8], tokens: &[Token<'t>]) -> Option<Finding<'t>> {
+pub fn left_out<'t>(text: &'t [u8], tokens: &[Token<'t>]) -> Option<Finding<'t>>
+    ensures place { texts.place_of result ≡ places.left_out tokens.now }
+    ensures cause { IfSome result (λ found. texts.is_text found.cause ≡ true) }
+{
     for token in tokens {
         if same_kind(token.kind(), Kind::LeftOut) {
             return Some(at_token(token, Reason::Text(about_left_out(text, token))));
@@ -208,7 +233,9 @@ pub fn left_out<'t>(text: &'t [u8], tokens: &[Token<'t>]) -> Option<Finding<'t>>
 }
 
 /// The name in front of the `(` that stands at `at`, if one does.
-fn called_at(tokens: &[Token<'_>], at: usize) -> Option<usize> {
+fn called_at(tokens: &[Token<'_>], at: usize) -> Option<usize>
+    ensures { IfSome result (λ name. name + 1 ≡ at) }
+{
     let before = at.checked_sub(1)?;
     if is_at(tokens, at, Kind::OpenParen) && is_at(tokens, before, Kind::Name) {
         Some(before)
@@ -218,7 +245,9 @@ fn called_at(tokens: &[Token<'_>], at: usize) -> Option<usize> {
 }
 
 /// Whether the name at `at` is that of a proctype or of an inline.
-fn is_defined(tokens: &[Token<'_>], at: usize) -> bool {
+fn is_defined(tokens: &[Token<'_>], at: usize) -> bool
+    ensures { result ≡ texts.is_defined tokens.now at }
+{
     match at.checked_sub(1) {
         Some(before) => {
             is_at(tokens, before, Kind::Proctype) || is_at(tokens, before, Kind::Inline)
@@ -262,7 +291,9 @@ fn function_of<'t>(text: &'t [u8], tokens: &[Token<'t>], at: usize) -> Option<Na
 }
 
 /// The first token that is left out, if it is a `return` in what is written as a function.
-pub fn returned<'t>(text: &'t [u8], tokens: &[Token<'t>]) -> Option<Finding<'t>> {
+pub fn returned<'t>(text: &'t [u8], tokens: &[Token<'t>]) -> Option<Finding<'t>>
+    ensures { IfSome result (λ found. found.place ≡ places.left_out tokens.now) }
+{
     for (i, token) in tokens.iter().enumerate() {
         if same_kind(token.kind(), Kind::LeftOut) {
             if token.text() != b"return".as_slice() {
@@ -276,7 +307,9 @@ pub fn returned<'t>(text: &'t [u8], tokens: &[Token<'t>]) -> Option<Finding<'t>>
 }
 
 /// Of tokens that pass this limit at the token with so many bytes before it.
-pub fn too_deep<'t>(tokens: &[Token<'t>], offset: u32, limit: TextCause<'t>) -> Finding<'t> {
+pub fn too_deep<'t>(tokens: &[Token<'t>], offset: u32, limit: TextCause<'t>) -> Finding<'t>
+    ensures { texts.is_text result.cause ≡ true }
+{
     for token in tokens {
         if token.line() == offset {
             return at_token(token, Reason::Text(limit));

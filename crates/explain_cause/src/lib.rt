@@ -5,6 +5,5 @@ pub mod brackets;
 pub mod cause;
 pub mod foreign;
 pub mod lexical;
-mod long_words;
 pub mod place;
 pub mod words;

@@ -1,6 +1,8 @@
 //! Tokens that have their places in place of their lines.
 
 ghost use Rattle.std.specs.Prelude.{◌≡◌, ◌≤◌, ◌+◌, ◌-◌, length, take, drop, Some, None};
+ghost use Rattle.pml_token.specs.Word.{same_kind as equal};
+ghost use Rattle.explain_cause.specs.Places as specified;
 
 use crate::cause::{Finding, Named, Reason, Segment};
 use pml_token::token::{Kind, Token, same_kind};
@@ -57,7 +59,8 @@ pub fn named<'t>(text: &'t [u8], token: &Token<'_>) -> Named<'t>
 
 /// What is found at a token.
 pub fn at_token<'t>(token: &Token<'_>, cause: Reason<'t>) -> Finding<'t>
-    ensures { result.place ≡ Some (record { offset = token.now.line; length = length token.now.text }) }
+    ensures place { result.place ≡ Some (record { offset = token.now.line; length = length token.now.text }) }
+    ensures cause { result.cause ≡ cause.entry }
 {
     Finding {
         place: Some(place_of(token)),
@@ -67,7 +70,8 @@ pub fn at_token<'t>(token: &Token<'_>, cause: Reason<'t>) -> Finding<'t>
 
 /// What is found at a place.
 pub fn at_place(place: Segment, cause: Reason<'_>) -> Finding<'_>
-    ensures { result.place ≡ Some place }
+    ensures place { result.place ≡ Some place }
+    ensures cause { result.cause ≡ cause.entry }
 {
     Finding {
         place: Some(place),
@@ -77,7 +81,8 @@ pub fn at_place(place: Segment, cause: Reason<'_>) -> Finding<'_>
 
 /// No more is known.
 pub fn untold<'t>() -> Finding<'t>
-    ensures { result.place ≡ None }
+    ensures place { result.place ≡ None }
+    ensures cause { result.cause ≡ Reason.Untold }
 {
     Finding {
         place: None,
@@ -86,7 +91,9 @@ pub fn untold<'t>() -> Finding<'t>
 }
 
 /// The kind of the token at a place of a list, `End` behind it.
-pub fn kind_at(tokens: &[Token<'_>], at: usize) -> Kind {
+pub fn kind_at(tokens: &[Token<'_>], at: usize) -> Kind
+    ensures { result ≡ specified.kind_at tokens.now at }
+{
     match tokens.get(at) {
         Some(token) => token.kind(),
         None => Kind::End,
@@ -115,13 +122,46 @@ pub fn between<'s, 't>(tokens: &'s [Token<'t>], at: usize, end: usize) -> &'s [T
     }
 }
 
+/// The place of the first token in a list that so many bytes of the text stand before.
+pub fn index_at(tokens: &[Token<'_>], offset: usize) -> Option<usize>
+    ensures { result ≡ specified.index_at offset tokens.now }
+{
+    let mut passed = 0usize;
+    let mut rest = tokens;
+    while !rest.is_empty() {
+        if rest[0].line() as usize == offset {
+            return Some(passed);
+        }
+        passed += 1;
+        rest = &rest[1..];
+    }
+    None
+}
+
 /// Whether a token of this kind stands there.
-pub fn is_at(tokens: &[Token<'_>], at: usize, kind: Kind) -> bool {
+pub fn is_at(tokens: &[Token<'_>], at: usize, kind: Kind) -> bool
+    ensures { result ≡ equal (specified.kind_at tokens.now at) kind }
+{
     same_kind(kind_at(tokens, at), kind)
 }
 
+/// Whether a token is of one of these kinds.
+#[tactic(auto, unfolding(crate::specs::Places::is_among))]
+pub fn is_among(kind: Kind, kinds: &[Kind]) -> bool
+    ensures { result ≡ specified.is_among kind kinds.now }
+{
+    for one in kinds {
+        if same_kind(kind, *one) {
+            return true;
+        }
+    }
+    false
+}
+
 /// Whether a token opens something: `( [ { if do`.
-pub fn opens(kind: Kind) -> bool {
+pub fn opens(kind: Kind) -> bool
+    ensures { result ≡ specified.opens kind }
+{
     matches!(
         kind,
         Kind::OpenParen | Kind::OpenBracket | Kind::OpenBrace | Kind::If | Kind::Do
@@ -129,7 +169,9 @@ pub fn opens(kind: Kind) -> bool {
 }
 
 /// Whether a token closes something: `) ] } fi od`.
-pub fn closes(kind: Kind) -> bool {
+pub fn closes(kind: Kind) -> bool
+    ensures { result ≡ specified.closes kind }
+{
     matches!(
         kind,
         Kind::CloseParen | Kind::CloseBracket | Kind::CloseBrace | Kind::Fi | Kind::Od
@@ -137,7 +179,9 @@ pub fn closes(kind: Kind) -> bool {
 }
 
 /// What closes what this opens.
-pub fn closer_of(kind: Kind) -> Kind {
+pub fn closer_of(kind: Kind) -> Kind
+    ensures { result ≡ specified.closer_of kind }
+{
     match kind {
         Kind::OpenParen => Kind::CloseParen,
         Kind::OpenBracket => Kind::CloseBracket,
