@@ -8,7 +8,7 @@ use std::alloc::AllocError;
 use std::str;
 
 /// Signs that people or their editors write, and what is written for them here.
-const COMPARISONS: [(&str, &str); 12] = [
+const SIGNS: [(&str, &str); 34] = [
     ("\u{2264}", "<="),
     ("\u{2265}", ">="),
     ("\u{2260}", "!="),
@@ -21,9 +21,6 @@ const COMPARISONS: [(&str, &str); 12] = [
     ("\u{2237}", "::"),
     ("\u{2026}", ".."),
     ("\u{2254}", "="),
-];
-
-const ARROWS: [(&str, &str); 12] = [
     ("\u{2192}", "->"),
     ("\u{27f6}", "->"),
     ("\u{21d2}", "->"),
@@ -36,9 +33,6 @@ const ARROWS: [(&str, &str); 12] = [
     ("\u{2212}", "-"),
     ("\u{ff1a}", ":"),
     ("\u{ff1b}", ";"),
-];
-
-const QUOTES: [(&str, &str); 10] = [
     ("\u{201c}", "\""),
     ("\u{201d}", "\""),
     ("\u{201e}", "\""),
@@ -51,31 +45,14 @@ const QUOTES: [(&str, &str); 10] = [
     ("\u{ff0c}", ","),
 ];
 
-/// What a table has for a sign.
-fn lookup(table: &[(&'static str, &'static str)], sign: &str) -> Option<&'static str> {
-    for entry in table {
-        if entry.0 == sign {
-            return Some(entry.1);
+/// What is written for a sign.
+fn written_for(sign: &str) -> Option<&'static str> {
+    for (one, written) in &SIGNS {
+        if *one == sign {
+            return Some(*written);
         }
     }
     None
-}
-
-fn of_comparisons(sign: &str) -> Option<&'static str> {
-    lookup(&COMPARISONS, sign)
-}
-
-fn of_arrows(sign: &str) -> Option<&'static str> {
-    lookup(&ARROWS, sign)
-}
-
-fn of_quotes(sign: &str) -> Option<&'static str> {
-    lookup(&QUOTES, sign)
-}
-
-/// What is written for a sign.
-fn written_for(sign: &str) -> Option<&'static str> {
-    of_comparisons(sign).or(of_arrows(sign)).or(of_quotes(sign))
 }
 
 /// Whether a sign is a blank of another width, or one that is not seen.

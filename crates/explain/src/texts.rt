@@ -9,101 +9,60 @@ use explain_cause::cause::{Named, TextCause};
 use profile::{MOST_IN_A_ROW, MOST_OPEN, MOST_TEXT_BYTES};
 use std::alloc::AllocError;
 
-fn is_among(word: &[u8], words: &[&[u8]]) -> bool {
-    for one in words {
-        if *one == word {
-            return true;
-        }
-    }
-    false
-}
+/// What is told of words and signs that are left out, behind them.
+const LEFT_OUT: [(&[u8], &str); 9] = [
+    (
+        b"ltl never trace notrace",
+        " is for a verification, and a simulation does not need it: take it out, or play the model by `spinprep --play MODEL`",
+    ),
+    (
+        b"@",
+        " asks at which label another process stands, as claims of a verification do, and is left out: let that process set a variable there",
+    ),
+    (
+        b"np_ _last enabled pc_value",
+        " is for claims of a verification, and is left out",
+    ),
+    (
+        b"c_code c_decl c_expr c_state c_track",
+        ": embedded C is left out; say it in Promela",
+    ),
+    (
+        b"priority get_priority set_priority",
+        " is left out, as all priorities are: take it out with its number, and any process may go first",
+    ),
+    (
+        b"provided",
+        " is left out: ask the condition in front of the statements",
+    ),
+    (b"D_proctype", " is left out: write `proctype`"),
+    (
+        b"return",
+        " is left out: an inline gives a value by a parameter that it stores in, and a process ends at its closing brace, as by `goto done` and `done: skip` there",
+    ),
+    (
+        b"'",
+        ": a character in quotes is left out: write its number, or play the model by `spinprep --play MODEL`",
+    ),
+];
 
-fn begins_claim(word: &[u8]) -> bool {
-    is_among(
-        word,
-        &[
-            b"ltl".as_slice(),
-            b"never".as_slice(),
-            b"trace".as_slice(),
-            b"notrace".as_slice(),
-        ],
-    )
-}
+/// The words of lines for a preprocessor.
+const DIRECTIVES: &[u8] =
+    b"define include if ifdef ifndef elif else endif undef pragma error warning";
 
-fn is_of_claims(word: &[u8]) -> bool {
-    is_among(
-        word,
-        &[
-            b"np_".as_slice(),
-            b"_last".as_slice(),
-            b"enabled".as_slice(),
-            b"pc_value".as_slice(),
-            b"@".as_slice(),
-        ],
-    )
-}
-
-fn is_embedded(word: &[u8]) -> bool {
-    is_among(
-        word,
-        &[
-            b"c_code".as_slice(),
-            b"c_decl".as_slice(),
-            b"c_expr".as_slice(),
-            b"c_state".as_slice(),
-            b"c_track".as_slice(),
-        ],
-    )
-}
-
-fn is_of_priorities(word: &[u8]) -> bool {
-    is_among(
-        word,
-        &[
-            b"priority".as_slice(),
-            b"get_priority".as_slice(),
-            b"set_priority".as_slice(),
-        ],
-    )
-}
-
-/// What a single word is that is left out, and what to do.
-fn about_word(word: &[u8]) -> &'static str {
-    if word == b"provided".as_slice() {
-        " is left out: ask the condition in front of the statements"
-    } else if word == b"D_proctype".as_slice() {
-        " is left out: write `proctype`"
-    } else if word == b"return".as_slice() {
-        " is left out: an inline gives a value by a parameter that it stores in, and a process ends at its closing brace, as by `goto done` and `done: skip` there"
-    } else if word == b"'".as_slice() {
-        ": a character in quotes is left out: write its number, or play the model by `spinprep --play MODEL`"
-    } else {
-        " is left out"
-    }
+/// Whether a word is among words with blanks between them.
+fn is_among(word: &[u8], words: &[u8]) -> bool {
+    words.split(|byte| *byte == b' ').any(|one| one == word)
 }
 
 /// What a word or a sign is that is left out, and what to do.
 fn about(word: &[u8]) -> &'static str {
-    if begins_claim(word) {
-        " is for a verification, and a simulation does not need it: take it out, or play the model by `spinprep --play MODEL`"
-    } else if word == b"@".as_slice() {
-        " asks at which label another process stands, as claims of a verification do, and is left out: let that process set a variable there"
-    } else if is_of_claims(word) {
-        " is for claims of a verification, and is left out"
-    } else if is_embedded(word) {
-        ": embedded C is left out; say it in Promela"
-    } else if is_of_priorities(word) {
-        " is left out, as all priorities are: take it out with its number, and any process may go first"
-    } else {
-        about_word(word)
+    for (words, advice) in &LEFT_OUT {
+        if is_among(word, *words) {
+            return *advice;
+        }
     }
-}
-
-fn begins(bytes: &[u8], byte: u8) -> bool {
-    match bytes {
-        [first, ..] => *first == byte,
-        [] => false,
-    }
+    " is left out"
 }
 
 /// The `#` and the word behind it.
@@ -129,32 +88,11 @@ fn word_behind(directive: &[u8]) -> &[u8] {
     &directive[..0]
 }
 
-/// Whether this is a line for a preprocessor.
-fn is_directive(directive: &[u8]) -> bool {
-    is_among(
-        word_behind(directive),
-        &[
-            b"define".as_slice(),
-            b"include".as_slice(),
-            b"if".as_slice(),
-            b"ifdef".as_slice(),
-            b"ifndef".as_slice(),
-            b"elif".as_slice(),
-            b"else".as_slice(),
-            b"endif".as_slice(),
-            b"undef".as_slice(),
-            b"pragma".as_slice(),
-            b"error".as_slice(),
-            b"warning".as_slice(),
-        ],
-    )
-}
-
 fn left_out(message: &mut Notice<'_>, word: &[u8]) -> Result<(), AllocError>
     ensures { OnOk result (Keeps message.old message.new) }
 {
-    if begins(word, b'#') {
-        if !is_directive(directive(word)) {
+    if matches!(word, [b'#', ..]) {
+        if !is_among(word_behind(directive(word)), DIRECTIVES) {
             return message.around("", word, ": a comment is written `/* .. */` or `// ..`");
         }
         let words =

@@ -1,0 +1,3 @@
+pub mod Signs
+pub mod Causes
+pub mod Walks

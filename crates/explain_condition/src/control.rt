@@ -1,5 +1,8 @@
 //! Breaks and d_steps.
 
+ghost use Rattle.std.specs.Prelude.{◌≡◌, true, OnOk, IfSome};
+ghost use Rattle.explain_condition.specs.Causes.{is_control};
+
 use crate::sign::{Lookup, NamedMark, Saying, first_name, front, place_of_name, sign_at, sign_of};
 use explain_cause::brackets::closing;
 use explain_cause::cause::{ControlCause, Finding, Named, Reason, Segment};
@@ -37,7 +40,10 @@ struct Controlled<'t> {
     cause: ControlCause<'t>,
 }
 
-fn told(controlled: Controlled<'_>) -> Finding<'_> {
+fn told(controlled: Controlled<'_>) -> Finding<'_>
+    ensures place { result.place ≡ controlled.entry.place }
+    ensures cause { is_control result.cause ≡ true }
+{
     Finding {
         place: controlled.place,
         cause: Reason::Control(controlled.cause),
@@ -45,7 +51,9 @@ fn told(controlled: Controlled<'_>) -> Finding<'_> {
 }
 
 /// Of a `break` that no `do` is round, which the mark at `at` is; `breaks` are how many bytes stand before each of the text.
-pub fn of_break<'t>(breaks: &[Option<u32>], marks: &[Mark<'_>], at: usize) -> Finding<'t> {
+pub fn of_break<'t>(breaks: &[Option<u32>], marks: &[Mark<'_>], at: usize) -> Finding<'t>
+    ensures { is_control result.cause ≡ true }
+{
     told(Controlled {
         place: break_place(breaks, marks, at),
         cause: ControlCause::LooseBreak,
@@ -166,7 +174,9 @@ fn step_at<'t>(
     }
 }
 
-fn told_step(controlled: Option<Controlled<'_>>) -> Finding<'_> {
+fn told_step(controlled: Option<Controlled<'_>>) -> Finding<'_>
+    ensures { is_control result.cause ≡ true }
+{
     match controlled {
         Some(controlled) => told(controlled),
         None => untold(),
@@ -181,7 +191,9 @@ pub fn of_step<'t>(
     breaks: &[Option<u32>],
     marks: &[Mark<'_>],
     at: usize,
-) -> Result<Finding<'t>, AllocError> {
+) -> Result<Finding<'t>, AllocError>
+    ensures { OnOk result (λ found. is_control found.cause ≡ true) }
+{
     match step_at(alloc, text, tokens, breaks, marks, at) {
         Ok(controlled) => Ok(told_step(controlled)),
         Err(AllocError) => Err(AllocError),

@@ -1,5 +1,8 @@
 //! Wrong numbers of arguments, and labels.
 
+ghost use Rattle.std.specs.Prelude.{◌≡◌, ◌≤◌, ◌-◌, length, take, true, option_map, OnOk, IfSome};
+ghost use Rattle.explain_condition.specs.Causes.{is_count, is_label};
+
 use crate::near::{InScope, nearest};
 use crate::sign::{Lookup, NamedMark, Saying, first, first_name, front, place_of_name, sign_at};
 use explain_cause::cause::{CountCause, Finding, LabelCause, NameSort, Named, Reason, Segment};
@@ -30,18 +33,15 @@ fn of_run<'t>(
     marks: &[Mark<'_>],
     name: Named<'t>,
     given: usize,
-) -> Option<Counted<'t>> {
+) -> Option<Counted<'t>>
+    ensures { IfSome result (λ counted. counted.place.offset ≡ name.entry.offset) }
+{
     let wanted = parameters(text, marks, name.name)?;
     let first = first_name(text, marks, Lookup::Declared(0), name.name)?;
     Some(Counted {
         place: place_of_name(name),
         cause: CountCause::Run(first, given, wanted),
     })
-}
-
-/// Whether a letter behind `%` takes a value.
-fn is_conversion(letter: u8) -> bool {
-    matches!(letter, b'd' | b'u' | b'o' | b'x' | b'c' | b'e')
 }
 
 /// What the text of a `printf` takes.
@@ -74,7 +74,7 @@ fn read_conversions(text: &[u8]) -> Conversions {
                 _ => Reading::Plain,
             },
             Reading::Percent(place) => {
-                if is_conversion(*byte) {
+                if matches!(*byte, b'd' | b'u' | b'o' | b'x' | b'c' | b'e') {
                     count = count.saturating_add(1);
                 } else if *byte != b'%' {
                     return Conversions::Bad(place);
@@ -90,7 +90,9 @@ fn read_conversions(text: &[u8]) -> Conversions {
 }
 
 /// A string without its last quote.
-fn without_quote(text: &[u8]) -> &[u8] {
+fn without_quote(text: &[u8]) -> &[u8]
+    ensures { result.now ≡ take (length text.now - 1) text.now }
+{
     match text {
         [] => text,
         [front @ .., _] => front,
@@ -131,7 +133,10 @@ fn of_sign<'t>(text: &'t [u8], marks: &[Mark<'_>], sign: NamedMark<'t>) -> Optio
     }
 }
 
-fn told(counted: Option<Counted<'_>>) -> Finding<'_> {
+fn told(counted: Option<Counted<'_>>) -> Finding<'_>
+    ensures place { result.place ≡ option_map (λ c. c.place) counted.entry }
+    ensures cause { is_count result.cause ≡ true }
+{
     match counted {
         Some(counted) => at_place(counted.place, Reason::Count(counted.cause)),
         None => untold(),
@@ -139,7 +144,9 @@ fn told(counted: Option<Counted<'_>>) -> Finding<'_> {
 }
 
 /// Of a run or a printf with another number of arguments, in the mark at `at`.
-pub fn of_count<'t>(text: &'t [u8], marks: &[Mark<'_>], at: usize) -> Finding<'t> {
+pub fn of_count<'t>(text: &'t [u8], marks: &[Mark<'_>], at: usize) -> Finding<'t>
+    ensures { is_count result.cause ≡ true }
+{
     told(of_sign(text, marks, sign_at(text, marks, at)))
 }
 
@@ -157,7 +164,9 @@ fn of_missing<'t>(
     marks: &[Mark<'_>],
     owner: usize,
     name: Named<'t>,
-) -> Result<Option<Labelled<'t>>, AllocError> {
+) -> Result<Option<Labelled<'t>>, AllocError>
+    ensures { OnOk result (λ found. IfSome found (λ labelled. labelled.name.offset ≡ name.entry.offset)) }
+{
     let sort = NameSort::Label;
     let near = nearest(alloc, text, marks, InScope { sort, owner }, name.name)?;
     let cause = LabelCause::Missing(name.name, near);
@@ -171,7 +180,9 @@ fn of_goto<'t>(
     marks: &[Mark<'_>],
     owner: usize,
     name: Named<'t>,
-) -> Result<Option<Labelled<'t>>, AllocError> {
+) -> Result<Option<Labelled<'t>>, AllocError>
+    ensures { OnOk result (λ found. IfSome found (λ labelled. labelled.name.offset ≡ name.entry.offset)) }
+{
     match first_name(text, marks, Lookup::AnyLabel, name.name) {
         Some(other) => {
             let cause = LabelCause::Elsewhere(other);
@@ -187,7 +198,9 @@ fn of_second<'t>(
     before: &[Mark<'_>],
     owner: usize,
     name: Named<'t>,
-) -> Option<Labelled<'t>> {
+) -> Option<Labelled<'t>>
+    ensures { IfSome result (λ labelled. labelled.name.offset ≡ name.entry.offset) }
+{
     match first_name(text, before, Lookup::Label(owner), name.name) {
         Some(first) => {
             let cause = LabelCause::Twice(first);
@@ -211,7 +224,9 @@ fn label_at<'t>(
     }
 }
 
-fn told_label(labelled: Option<Labelled<'_>>) -> Finding<'_> {
+fn told_label(labelled: Option<Labelled<'_>>) -> Finding<'_>
+    ensures { is_label result.cause ≡ true }
+{
     match labelled {
         Some(found) => at_place(place_of_name(found.name), Reason::Label(found.cause)),
         None => untold(),
@@ -224,7 +239,9 @@ pub fn of_label<'t>(
     text: &'t [u8],
     marks: &[Mark<'_>],
     at: usize,
-) -> Result<Finding<'t>, AllocError> {
+) -> Result<Finding<'t>, AllocError>
+    ensures { OnOk result (λ found. is_label found.cause ≡ true) }
+{
     match label_at(alloc, text, marks, at) {
         Ok(labelled) => Ok(told_label(labelled)),
         Err(AllocError) => Err(AllocError),

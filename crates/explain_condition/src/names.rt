@@ -1,5 +1,8 @@
 //! Names that stand twice, and names that are not declared.
 
+ghost use Rattle.std.specs.Prelude.{◌≡◌, true, OnOk, IfSome};
+ghost use Rattle.explain_condition.specs.Causes.{is_twice, is_unknown};
+
 use crate::near::{InScope, nearest, nearest_word};
 use crate::sign::{
     Lookup, NamedMark, Saying, behind, first_name, front, is_declared, meaning, place_of_name,
@@ -35,7 +38,9 @@ fn twice<'t>(text: &'t [u8], before: &[Mark<'_>], sign: NamedMark<'t>) -> Option
     }
 }
 
-fn told_twice<'t>(name: Named<'t>, cause: Option<TwiceCause<'t>>) -> Finding<'t> {
+fn told_twice<'t>(name: Named<'t>, cause: Option<TwiceCause<'t>>) -> Finding<'t>
+    ensures { is_twice result.cause ≡ true }
+{
     match cause {
         Some(cause) => at_place(place_of_name(name), Reason::Twice(cause)),
         None => untold(),
@@ -43,7 +48,9 @@ fn told_twice<'t>(name: Named<'t>, cause: Option<TwiceCause<'t>>) -> Finding<'t>
 }
 
 /// Of a name that is declared twice, the second time by the mark at `at`.
-pub fn of_twice<'t>(text: &'t [u8], marks: &[Mark<'_>], at: usize) -> Finding<'t> {
+pub fn of_twice<'t>(text: &'t [u8], marks: &[Mark<'_>], at: usize) -> Finding<'t>
+    ensures { is_twice result.cause ≡ true }
+{
     let sign = sign_at(text, marks, at);
     let cause = if is_declared(sign.matter) {
         twice(text, front(marks, at), sign)
@@ -163,7 +170,9 @@ fn nowhere<'t>(
     seen: &[Mark<'_>],
     name: Named<'t>,
     wish: InScope,
-) -> Result<Option<Unknown<'t>>, AllocError> {
+) -> Result<Option<Unknown<'t>>, AllocError>
+    ensures { OnOk result (λ found. IfSome found (λ unknown. unknown.name.offset ≡ name.entry.offset)) }
+{
     let cause = match nearest(alloc, text, seen, wish, name.name)? {
         Some(near) => UnknownCause::Nowhere(wish.sort, name.name, Some(near)),
         None => no_name(alloc, name.name, wish.sort)?,
@@ -172,7 +181,9 @@ fn nowhere<'t>(
 }
 
 /// Of a name that is declared behind its use, or around it, as a typedef round its own fields.
-fn of_later<'t>(name: Named<'t>, cause: UnknownCause<'t>) -> Unknown<'t> {
+fn of_later<'t>(name: Named<'t>, cause: UnknownCause<'t>) -> Unknown<'t>
+    ensures { result.name.offset ≡ name.entry.offset }
+{
     let cause = match cause {
         UnknownCause::Later(first) if first.offset < name.offset => UnknownCause::Itself(first),
         cause => cause,
@@ -188,7 +199,9 @@ fn of_missing<'t>(
     at: usize,
     name: Named<'t>,
     wish: InScope,
-) -> Result<Option<Unknown<'t>>, AllocError> {
+) -> Result<Option<Unknown<'t>>, AllocError>
+    ensures { OnOk result (λ found. IfSome found (λ unknown. unknown.name.offset ≡ name.entry.offset)) }
+{
     match declared_otherwise(text, marks, at, name.name, wish) {
         Some(cause) => Ok(Some(of_later(name, cause))),
         None => {
@@ -206,7 +219,9 @@ fn no_field<'t>(
     name: Named<'t>,
     holder: Named<'t>,
     owner: usize,
-) -> Result<Option<Unknown<'t>>, AllocError> {
+) -> Result<Option<Unknown<'t>>, AllocError>
+    ensures { OnOk result (λ found. IfSome found (λ unknown. unknown.name.offset ≡ name.entry.offset)) }
+{
     let sort = NameSort::Field;
     let near = nearest(alloc, text, marks, InScope { sort, owner }, name.name)?;
     let cause = UnknownCause::Field(name.name, holder, near);
@@ -220,7 +235,9 @@ fn of_lacking<'t>(
     marks: &[Mark<'_>],
     name: Named<'t>,
     owner: usize,
-) -> Result<Option<Unknown<'t>>, AllocError> {
+) -> Result<Option<Unknown<'t>>, AllocError>
+    ensures { OnOk result (λ found. IfSome found (λ unknown. unknown.name.offset ≡ name.entry.offset)) }
+{
     match first_name(text, marks, Lookup::Fields(owner), b"") {
         Some(holder) => no_field(alloc, text, marks, name, holder, owner),
         None => Ok(None),
@@ -250,7 +267,9 @@ fn instead<'t>(
     marks: &[Mark<'_>],
     name: Named<'t>,
     sort: NameSort,
-) -> Option<Unknown<'t>> {
+) -> Option<Unknown<'t>>
+    ensures { IfSome result (λ unknown. unknown.name.offset ≡ name.entry.offset) }
+{
     match first_name(text, marks, Lookup::Declared(0), name.name) {
         Some(first) => {
             let cause = UnknownCause::Instead(first, sort);
@@ -304,7 +323,9 @@ fn unknown_at<'t>(
     }
 }
 
-fn told(unknown: Option<Unknown<'_>>) -> Finding<'_> {
+fn told(unknown: Option<Unknown<'_>>) -> Finding<'_>
+    ensures { is_unknown result.cause ≡ true }
+{
     match unknown {
         Some(found) => at_place(place_of_name(found.name), Reason::Unknown(found.cause)),
         None => untold(),
@@ -317,7 +338,9 @@ pub fn of_unknown<'t>(
     text: &'t [u8],
     marks: &[Mark<'_>],
     at: usize,
-) -> Result<Finding<'t>, AllocError> {
+) -> Result<Finding<'t>, AllocError>
+    ensures { OnOk result (λ found. is_unknown found.cause ≡ true) }
+{
     match unknown_at(alloc, text, marks, at) {
         Ok(unknown) => Ok(told(unknown)),
         Err(AllocError) => Err(AllocError),

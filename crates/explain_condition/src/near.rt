@@ -1,5 +1,8 @@
 //! The nearest name.
 
+ghost use Rattle.std.specs.Prelude.{◌≡◌, ◌<◌, ◌≤◌, length, true, OnOk, IfSome};
+ghost use Rattle.explain_condition.specs.Causes.{is_of_sort};
+
 use crate::sign::{NamedMark, Saying, sign_of};
 use explain_cause::cause::{NameSort, Named};
 use promela_model::mark::Mark;
@@ -19,7 +22,9 @@ pub struct InScope {
 }
 
 /// Whether what a mark says gives a name of a sort. A constant may stand where a variable may.
-fn is_of(matter: Saying, sort: NameSort) -> bool {
+fn is_of(matter: Saying, sort: NameSort) -> bool
+    ensures { result ≡ is_of_sort matter sort }
+{
     match matter {
         Saying::Variable => matches!(sort, NameSort::Variable),
         Saying::Field => matches!(sort, NameSort::Field),
@@ -37,12 +42,16 @@ fn is_seen(owner: usize, wish: InScope) -> bool {
 }
 
 /// Whether the name that a mark gives may stand there.
-fn may_stand(sign: NamedMark<'_>, wish: InScope) -> bool {
+fn may_stand(sign: NamedMark<'_>, wish: InScope) -> bool
+    ensures { result ≡ true → is_of_sort sign.entry.matter wish.sort ≡ true }
+{
     is_seen(sign.owner, wish) && is_of(sign.matter, wish.sort)
 }
 
 /// How many letters differ, are put in, left out or swapped, at most a third of them.
-fn distance(alloc: Global, name: &[u8], other: &[u8]) -> Result<Option<usize>, AllocError> {
+fn distance(alloc: Global, name: &[u8], other: &[u8]) -> Result<Option<usize>, AllocError>
+    ensures { OnOk result (λ most. IfSome most (λ count. count < length name.now)) }
+{
     if name.len() > MOST_COMPARED || other.len() > MOST_COMPARED {
         return Ok(None);
     }
@@ -109,30 +118,10 @@ const WORDS: [&[u8]; 44] = [
 /// Shorter names are near to no word.
 const LEAST_NEAR: usize = 3;
 
-/// A letter as a small one.
-fn small(byte: u8) -> u8 {
-    if b'A' <= byte && byte <= b'Z' {
-        byte + 32
-    } else {
-        byte
-    }
-}
-
-/// Whether a name is a word but for its letters being large or small.
-fn is_spelled(name: &[u8], word: &[u8]) -> bool {
-    for (i, byte) in name.iter().enumerate() {
-        match word.get(i) {
-            Some(letter) if *letter == small(*byte) => {}
-            _ => return false,
-        }
-    }
-    name.len() == word.len()
-}
-
 /// The word that a name is but for that.
 fn spelled_word(name: &[u8]) -> Option<&'static [u8]> {
     for word in &WORDS {
-        if is_spelled(name, *word) {
+        if name.eq_ignore_ascii_case(*word) {
             return Some(*word);
         }
     }

@@ -1,5 +1,8 @@
 //! Numbers out of range, and too many cells.
 
+ghost use Rattle.std.specs.Prelude.{◌≡◌, true, option_map, IfSome};
+ghost use Rattle.explain_condition.specs.Causes.{is_range};
+
 use crate::sign::{
     NamedMark, Saying, behind, front, is_declared, last_proctype, next_name, place_of_name, sign_at,
 };
@@ -32,7 +35,9 @@ fn number_of(constant: Constant) -> i32 {
     }
 }
 
-fn of_name<'t>(name: Named<'t>, cause: RangeCause<'t>) -> Ranged<'t> {
+fn of_name<'t>(name: Named<'t>, cause: RangeCause<'t>) -> Ranged<'t>
+    ensures { result.place.offset ≡ name.entry.offset }
+{
     let place = place_of_name(name);
     Ranged { place, cause }
 }
@@ -114,7 +119,10 @@ fn range_at<'t>(
     }
 }
 
-fn told(ranged: Option<Ranged<'_>>) -> Finding<'_> {
+fn told(ranged: Option<Ranged<'_>>) -> Finding<'_>
+    ensures place { result.place ≡ option_map (λ r. r.place) ranged.entry }
+    ensures cause { is_range result.cause ≡ true }
+{
     match ranged {
         Some(ranged) => at_place(ranged.place, Reason::Range(ranged.cause)),
         None => untold(),
@@ -127,7 +135,9 @@ pub fn of_range<'t>(
     tokens: &[Token<'_>],
     marks: &[Mark<'_>],
     at: usize,
-) -> Finding<'t> {
+) -> Finding<'t>
+    ensures { is_range result.cause ≡ true }
+{
     told(range_at(text, tokens, marks, at))
 }
 
@@ -149,6 +159,8 @@ fn of_sign<'t>(text: &'t [u8], rest: &[Mark<'_>], sign: NamedMark<'t>) -> Option
 }
 
 /// Of too many cells, in the mark at `at`.
-pub fn of_cells<'t>(text: &'t [u8], marks: &[Mark<'_>], at: usize) -> Finding<'t> {
+pub fn of_cells<'t>(text: &'t [u8], marks: &[Mark<'_>], at: usize) -> Finding<'t>
+    ensures { is_range result.cause ≡ true }
+{
     told(of_sign(text, behind(marks, at), sign_at(text, marks, at)))
 }

@@ -1,5 +1,8 @@
 //! What marks say, as plain values with the names in them.
 
+ghost use Rattle.std.specs.Prelude.{◌≡◌, length, take, drop, true, IfSome};
+ghost use Rattle.explain_condition.specs.Signs as signs;
+
 use explain_cause::cause::{Named, Segment};
 use explain_cause::place::named;
 use promela_model::mark::{Constant, Declared, Holder, Mark, Role, Shape, Structure, Use, What};
@@ -71,7 +74,9 @@ pub enum Lookup {
 }
 
 /// The first so many marks.
-pub fn front<'m, 'a>(marks: &'m [Mark<'a>], count: usize) -> &'m [Mark<'a>] {
+pub fn front<'m, 'a>(marks: &'m [Mark<'a>], count: usize) -> &'m [Mark<'a>]
+    ensures { result.now ≡ take count marks.now }
+{
     if count <= marks.len() {
         &marks[..count]
     } else {
@@ -80,7 +85,9 @@ pub fn front<'m, 'a>(marks: &'m [Mark<'a>], count: usize) -> &'m [Mark<'a>] {
 }
 
 /// The marks behind so many.
-pub fn behind<'m, 'a>(marks: &'m [Mark<'a>], count: usize) -> &'m [Mark<'a>] {
+pub fn behind<'m, 'a>(marks: &'m [Mark<'a>], count: usize) -> &'m [Mark<'a>]
+    ensures { result.now ≡ drop count marks.now }
+{
     if count <= marks.len() {
         &marks[count..]
     } else {
@@ -88,7 +95,9 @@ pub fn behind<'m, 'a>(marks: &'m [Mark<'a>], count: usize) -> &'m [Mark<'a>] {
     }
 }
 
-fn declared_as(declared: &Declared<'_>) -> Saying {
+fn declared_as(declared: &Declared<'_>) -> Saying
+    ensures { result ≡ signs.declared_as declared.now }
+{
     match declared {
         Declared::Variable(Role::Variable, _, _, _) => Saying::Variable,
         Declared::Variable(Role::Field, _, _, _) => Saying::Field,
@@ -98,7 +107,9 @@ fn declared_as(declared: &Declared<'_>) -> Saying {
     }
 }
 
-fn matter_of(what: &What<'_>) -> Saying {
+fn matter_of(what: &What<'_>) -> Saying
+    ensures { result ≡ signs.saying_of what.now }
+{
     match what {
         What::Declares(_, declared) => declared_as(declared),
         What::Uses(how, _) => Saying::Reference(*how),
@@ -123,14 +134,19 @@ fn matter_of(what: &What<'_>) -> Saying {
 }
 
 /// No name.
-pub fn nameless<'t>(text: &'t [u8]) -> Named<'t> {
+pub fn nameless<'t>(text: &'t [u8]) -> Named<'t>
+    ensures offset { result.offset ≡ 0 }
+    ensures empty { length result.name.now ≡ 0 }
+{
     Named {
         name: &text[..0],
         offset: 0,
     }
 }
 
-fn name_of<'t>(text: &'t [u8], what: &What<'_>) -> Named<'t> {
+fn name_of<'t>(text: &'t [u8], what: &What<'_>) -> Named<'t>
+    ensures { result.offset ≡ signs.offset_of what.now }
+{
     match what {
         What::Declares(token, _) => named(text, token),
         What::Typedef(token) => named(text, token),
@@ -145,7 +161,11 @@ fn name_of<'t>(text: &'t [u8], what: &What<'_>) -> Named<'t> {
 }
 
 /// What a mark says.
-pub fn sign_of<'t>(text: &'t [u8], mark: &Mark<'_>) -> NamedMark<'t> {
+pub fn sign_of<'t>(text: &'t [u8], mark: &Mark<'_>) -> NamedMark<'t>
+    ensures owner { result.owner ≡ mark.now.owner }
+    ensures matter { result.matter ≡ signs.saying_of mark.now.what }
+    ensures offset { result.name.offset ≡ signs.offset_of mark.now.what }
+{
     NamedMark {
         owner: mark.owner,
         matter: matter_of(&mark.what),
@@ -154,7 +174,11 @@ pub fn sign_of<'t>(text: &'t [u8], mark: &Mark<'_>) -> NamedMark<'t> {
 }
 
 /// What the mark at `at` says; where there is none, a structure ends.
-pub fn sign_at<'t>(text: &'t [u8], marks: &[Mark<'_>], at: usize) -> NamedMark<'t> {
+pub fn sign_at<'t>(text: &'t [u8], marks: &[Mark<'_>], at: usize) -> NamedMark<'t>
+    ensures owner { result.owner ≡ signs.first_owner (drop at marks.now) }
+    ensures matter { result.matter ≡ signs.first_saying (drop at marks.now) }
+    ensures offset { result.name.offset ≡ signs.first_offset (drop at marks.now) }
+{
     match behind(marks, at) {
         [mark, ..] => sign_of(text, mark),
         [] => NamedMark {
@@ -165,7 +189,9 @@ pub fn sign_at<'t>(text: &'t [u8], marks: &[Mark<'_>], at: usize) -> NamedMark<'
     }
 }
 
-fn steps_of<'m, 'a>(mark: &'m Mark<'a>) -> &'m [Shape<'a>] {
+fn steps_of<'m, 'a>(mark: &'m Mark<'a>) -> &'m [Shape<'a>]
+    ensures { result.now ≡ signs.steps_of mark.now.what }
+{
     match &mark.what {
         What::Uses(_, steps) => steps.as_slice(),
         _ => &[],
@@ -173,7 +199,9 @@ fn steps_of<'m, 'a>(mark: &'m Mark<'a>) -> &'m [Shape<'a>] {
 }
 
 /// The names of the reference of the mark at `at`.
-pub fn steps_at<'m, 'a>(marks: &'m [Mark<'a>], at: usize) -> &'m [Shape<'a>] {
+pub fn steps_at<'m, 'a>(marks: &'m [Mark<'a>], at: usize) -> &'m [Shape<'a>]
+    ensures { result.now ≡ signs.first_steps (drop at marks.now) }
+{
     match behind(marks, at) {
         [mark, ..] => steps_of(mark),
         [] => &[],
@@ -181,7 +209,9 @@ pub fn steps_at<'m, 'a>(marks: &'m [Mark<'a>], at: usize) -> &'m [Shape<'a>] {
 }
 
 /// Whether a name is declared.
-pub fn is_declared(matter: Saying) -> bool {
+pub fn is_declared(matter: Saying) -> bool
+    ensures { result ≡ signs.is_declared matter }
+{
     matches!(
         matter,
         Saying::Variable
@@ -192,32 +222,26 @@ pub fn is_declared(matter: Saying) -> bool {
     )
 }
 
-fn has_fields(matter: Saying, owner: usize) -> bool {
-    match matter {
-        Saying::Typedef(fields) => fields == owner,
-        _ => false,
-    }
-}
-
 /// Whether a mark with some name is one that is looked for.
-fn is_sought(owner: usize, matter: Saying, sought: Lookup) -> bool {
+fn is_sought(owner: usize, matter: Saying, sought: Lookup) -> bool
+    ensures { result ≡ signs.is_sought owner matter sought }
+{
     match sought {
         Lookup::Declared(wanted) => owner == wanted && is_declared(matter),
         Lookup::Label(wanted) => owner == wanted && matches!(matter, Saying::Label),
         Lookup::AnyLabel => matches!(matter, Saying::Label),
         Lookup::Local => 0 < owner && matches!(matter, Saying::Variable),
         Lookup::Proctype => matches!(matter, Saying::Proctype(_)),
-        Lookup::Fields(wanted) => has_fields(matter, wanted),
+        Lookup::Fields(wanted) => matches!(matter, Saying::Typedef(fields) if fields == wanted),
         Lookup::Any => is_declared(matter),
     }
 }
 
-fn has_any_name(sought: Lookup) -> bool {
-    matches!(sought, Lookup::Fields(_) | Lookup::Any)
-}
-
-fn fits(sign: NamedMark<'_>, sought: Lookup, name: &[u8]) -> bool {
-    is_sought(sign.owner, sign.matter, sought) && (has_any_name(sought) || sign.name.name == name)
+fn fits(sign: NamedMark<'_>, sought: Lookup, name: &[u8]) -> bool
+    ensures { result ≡ true → signs.is_sought sign.entry.owner sign.entry.matter sought ≡ true }
+{
+    let has_any_name = matches!(sought, Lookup::Fields(_) | Lookup::Any);
+    is_sought(sign.owner, sign.matter, sought) && (has_any_name || sign.name.name == name)
 }
 
 /// The first of these marks that is looked for.
@@ -226,7 +250,9 @@ pub fn first<'t>(
     marks: &[Mark<'_>],
     sought: Lookup,
     name: &[u8],
-) -> Option<NamedMark<'t>> {
+) -> Option<NamedMark<'t>>
+    ensures { IfSome result (λ sign. signs.is_sought sign.owner sign.matter sought ≡ true) }
+{
     for mark in marks {
         let sign = sign_of(text, mark);
         if fits(sign, sought, name) {
@@ -275,11 +301,15 @@ fn declared_by(text: &[u8], marks: &[Mark<'_>], owner: usize, name: &[u8]) -> Sa
 }
 
 /// The second, where the first declares nothing.
-fn or_else(first: Saying, second: Saying) -> Saying {
+fn or_else(first: Saying, second: Saying) -> Saying
+    ensures { result ≡ signs.or_else first second }
+{
     if is_declared(first) { first } else { second }
 }
 
-fn only_proctype(matter: Saying) -> Saying {
+fn only_proctype(matter: Saying) -> Saying
+    ensures { result ≡ signs.only_proctype matter }
+{
     match matter {
         Saying::Proctype(parameters) => Saying::Proctype(parameters),
         _ => Saying::Leave,
@@ -297,7 +327,10 @@ pub fn meaning(text: &[u8], marks: &[Mark<'_>], at: usize, owner: usize, name: &
 }
 
 /// The place of a name.
-pub fn place_of_name(name: Named<'_>) -> Segment {
+pub fn place_of_name(name: Named<'_>) -> Segment
+    ensures offset { result.offset ≡ name.entry.offset }
+    ensures length { result.length ≡ length name.entry.name.now }
+{
     Segment {
         offset: name.offset,
         length: name.name.len(),

@@ -1,7 +1,8 @@
 //! The first state.
 
-ghost use Rattle.std.specs.Prelude.{◌≡◌};
+ghost use Rattle.std.specs.Prelude.{◌≡◌, ◌<◌, ◌≤◌, length, true, OnOk, IfSome};
 ghost use Rattle.check_names.specs.Env.{env};
+ghost use Rattle.explain_condition.specs.Causes.{is_start};
 
 use crate::sign::{behind, front, last_proctype, next_name, place_of_name};
 use check_conditions::decide::applies;
@@ -16,7 +17,10 @@ use promela_model::mark::{Constant, Mark, What};
 use std::alloc::{AllocError, Global};
 
 /// Of a text in which no process begins.
-pub fn of_none<'t>(text: &'t [u8], marks: &[Mark<'_>]) -> Finding<'t> {
+pub fn of_none<'t>(text: &'t [u8], marks: &[Mark<'_>]) -> Finding<'t>
+    ensures offset { IfSome result.place (λ place. place.offset ≡ length text.now) }
+    ensures cause { is_start result.cause ≡ true }
+{
     let proctype = last_proctype(text, marks);
     at_place(end_of(text), Reason::Start(StartCause::NoProcess(proctype)))
 }
@@ -30,7 +34,9 @@ fn count_of(mark: &Mark<'_>) -> usize {
 }
 
 /// The mark of the proctype with which more processes begin than there may be.
-fn full_at(marks: &[Mark<'_>]) -> Option<usize> {
+fn full_at(marks: &[Mark<'_>]) -> Option<usize>
+    ensures { IfSome result (λ at. at < length marks.now) }
+{
     let mut total = 0usize;
     for (i, mark) in marks.iter().enumerate() {
         total = total.saturating_add(count_of(mark));
@@ -125,7 +131,9 @@ fn of_full<'t>(text: &'t [u8], marks: &[Mark<'_>], full: Full) -> Option<Started
     }
 }
 
-fn told(started: Option<Started<'_>>) -> Finding<'_> {
+fn told(started: Option<Started<'_>>) -> Finding<'_>
+    ensures { is_start result.cause ≡ true }
+{
     match started {
         Some(found) => at_place(place_of_name(found.name), Reason::Start(found.cause)),
         None => untold(),
@@ -137,7 +145,9 @@ pub fn of_start<'t>(
     alloc: Global,
     text: &'t [u8],
     marks: &[Mark<'_>],
-) -> Result<Finding<'t>, AllocError> {
+) -> Result<Finding<'t>, AllocError>
+    ensures { OnOk result (λ found. is_start found.cause ≡ true) }
+{
     match full_of(alloc, marks) {
         Ok(full) => Ok(told(of_full(text, marks, full))),
         Err(AllocError) => Err(AllocError),

@@ -1,5 +1,10 @@
 //! Where a reference leads.
 
+ghost use Rattle.std.specs.Prelude.{◌≡◌};
+ghost use Rattle.promela_model.specs.Names.{visible as seen, field_of_type};
+ghost use Rattle.check_names.specs.Entry.{found};
+ghost use Rattle.explain_condition.specs.Walks as walks;
+
 use crate::sign::nameless;
 use check_names::meaning::{field, visible};
 use check_names::names::all_names;
@@ -51,7 +56,9 @@ enum Step {
     Last(ReferenceEnd),
 }
 
-fn lacking(form: Form, number: usize) -> ReferenceEnd {
+fn lacking(form: Form, number: usize) -> ReferenceEnd
+    ensures { result ≡ walks.lacking form number }
+{
     match form {
         Form::Struct(owner) => ReferenceEnd::Lacking(number, owner),
         _ => ReferenceEnd::Other,
@@ -59,21 +66,27 @@ fn lacking(form: Form, number: usize) -> ReferenceEnd {
 }
 
 /// What is found of a name.
-fn step_of(thing: Thing) -> Step {
+fn step_of(thing: Thing) -> Step
+    ensures { result ≡ walks.step_of thing }
+{
     match thing {
         Thing::Variable(v) => Step::Variable(v.array, v.form),
         _ => Step::Last(ReferenceEnd::Other),
     }
 }
 
-fn first_step(table: &Table<'_>, owner: usize, name: &[u8]) -> Step {
+fn first_step(table: &Table<'_>, owner: usize, name: &[u8]) -> Step
+    ensures { result ≡ walks.step_of_name (seen (found table.now) owner name.now) }
+{
     match visible(table, owner, name) {
         Some(thing) => step_of(thing),
         None => Step::Last(ReferenceEnd::Other),
     }
 }
 
-fn field_step(table: &Table<'_>, form: Form, name: &[u8], number: usize) -> Step {
+fn field_step(table: &Table<'_>, form: Form, name: &[u8], number: usize) -> Step
+    ensures { result ≡ walks.step_of_field (field_of_type (found table.now) form name.now) form number }
+{
     match field(table, form, name) {
         Some(Some(thing)) => step_of(thing),
         Some(None) => Step::Last(lacking(form, number)),
@@ -90,7 +103,9 @@ fn next_step(table: &Table<'_>, here: ReferenceEnd, name: &[u8], number: usize) 
 }
 
 /// The first index that is not right, at the name of this number or before it.
-fn index_of(before: Index, number: usize, indexed: bool, array: bool) -> Index {
+fn index_of(before: Index, number: usize, indexed: bool, array: bool) -> Index
+    ensures { result ≡ walks.index_of before number indexed array }
+{
     match before {
         Index::Right => {
             if indexed == array {
@@ -132,11 +147,11 @@ pub fn walk_behind(
 }
 
 /// The name of this number, or an empty one.
-pub fn name_at<'t>(text: &'t [u8], steps: &[Shape<'_>], number: usize) -> Named<'t> {
-    for (i, step) in steps.iter().enumerate() {
-        if i == number {
-            return named(text, &step.name);
-        }
+pub fn name_at<'t>(text: &'t [u8], steps: &[Shape<'_>], number: usize) -> Named<'t>
+    ensures { result.offset ≡ walks.offset_at steps.now number }
+{
+    match steps.get(number) {
+        Some(step) => named(text, &step.name),
+        None => nameless(text),
     }
-    nameless(text)
 }

@@ -1,5 +1,9 @@
 //! Names and values of the wrong kind.
 
+ghost use Rattle.std.specs.Prelude.{◌≡◌, length, true, option_map, OnOk, IfSome};
+ghost use Rattle.explain_condition.specs.Causes.{is_wrong, sort_of as sort_there};
+ghost use Rattle.explain_condition.specs.Walks.{offset_at, told_number, end_told};
+
 use crate::sign::{
     Lookup, Saying, behind, first_name, front, last_proctype, meaning, next_name, place_of_name,
     sign_at, steps_at,
@@ -31,7 +35,9 @@ struct Used {
     how: Use,
 }
 
-fn of_name<'t>(name: Named<'t>, cause: WrongCause<'t>) -> Option<Wrong<'t>> {
+fn of_name<'t>(name: Named<'t>, cause: WrongCause<'t>) -> Option<Wrong<'t>>
+    ensures { IfSome result (λ wrong. wrong.place.offset ≡ name.entry.offset) }
+{
     let place = place_of_name(name);
     Some(Wrong { place, cause })
 }
@@ -45,7 +51,9 @@ fn is_plain(steps: &[Shape<'_>]) -> bool {
 }
 
 /// What the last name of a reference stands for, where that does not fit its use.
-fn of_last<'t>(how: Use, last: Named<'t>, form: Form) -> Option<Wrong<'t>> {
+fn of_last<'t>(how: Use, last: Named<'t>, form: Form) -> Option<Wrong<'t>>
+    ensures { IfSome result (λ wrong. wrong.place.offset ≡ last.entry.offset) }
+{
     match form {
         Form::Struct(_) => of_name(last, WrongCause::WholeTypedef(last.name)),
         Form::Unknown => None,
@@ -57,18 +65,10 @@ fn of_last<'t>(how: Use, last: Named<'t>, form: Form) -> Option<Wrong<'t>> {
     }
 }
 
-/// A field behind a name that has none.
-fn of_no_field<'t>(last: Named<'t>, name: Named<'t>) -> Option<Wrong<'t>> {
-    of_name(name, WrongCause::FieldOfNone(last.name, name.name))
-}
-
 /// Where a reference ends, if that does not fit its use.
-fn of_end<'t>(
-    text: &'t [u8],
-    how: Use,
-    steps: &[Shape<'_>],
-    end: ReferenceEnd,
-) -> Option<Wrong<'t>> {
+fn of_end<'t>(text: &'t [u8], how: Use, steps: &[Shape<'_>], end: ReferenceEnd) -> Option<Wrong<'t>>
+    ensures { IfSome result (λ wrong. wrong.place.offset ≡ offset_at steps.now (end_told end (length steps.now))) }
+{
     match end {
         ReferenceEnd::Form(form) => {
             let last = name_at(text, steps, steps.len().saturating_sub(1));
@@ -76,7 +76,8 @@ fn of_end<'t>(
         }
         ReferenceEnd::NoFields(number) => {
             let last = name_at(text, steps, number.saturating_sub(1));
-            of_no_field(last, name_at(text, steps, number))
+            let name = name_at(text, steps, number);
+            of_name(name, WrongCause::FieldOfNone(last.name, name.name))
         }
         _ => None,
     }
@@ -102,7 +103,9 @@ fn of_array<'t>(
     steps: &[Shape<'_>],
     end: ReferenceEnd,
     number: usize,
-) -> Option<Wrong<'t>> {
+) -> Option<Wrong<'t>>
+    ensures { IfSome result (λ wrong. wrong.place.offset ≡ offset_at steps.now number) }
+{
     let name = name_at(text, steps, number);
     if asks_length(text, steps, end) {
         of_name(name, WrongCause::ArrayLength(name.name))
@@ -126,7 +129,9 @@ fn of_walk<'t>(
     how: Use,
     steps: &[Shape<'_>],
     walk: TracedReference,
-) -> Option<Wrong<'t>> {
+) -> Option<Wrong<'t>>
+    ensures { IfSome result (λ wrong. wrong.place.offset ≡ offset_at steps.now (told_number walk.index walk.end (length steps.now))) }
+{
     match walk.index {
         Index::Missing(number) => of_array(text, how, steps, walk.end, number),
         Index::Extra(number) => {
@@ -149,7 +154,9 @@ fn of_variable<'t>(
     Ok(of_walk(text, used.how, steps, walk))
 }
 
-fn of_constant<'t>(how: Use, name: Named<'t>, plain: bool) -> Option<Wrong<'t>> {
+fn of_constant<'t>(how: Use, name: Named<'t>, plain: bool) -> Option<Wrong<'t>>
+    ensures { IfSome result (λ wrong. wrong.place.offset ≡ name.entry.offset) }
+{
     if !plain {
         return of_name(name, WrongCause::NotPlain(name.name));
     }
@@ -157,11 +164,6 @@ fn of_constant<'t>(how: Use, name: Named<'t>, plain: bool) -> Option<Wrong<'t>> 
         Use::Channel => of_name(name, WrongCause::NoChannel(name.name)),
         _ => of_name(name, WrongCause::StoredConstant(name.name)),
     }
-}
-
-/// `_`, `_pid` and `_nr_pr`.
-fn of_special<'t>(used: Used, name: Named<'t>, plain: bool) -> Option<Wrong<'t>> {
-    of_name(name, special(used, name, plain))
 }
 
 fn special<'t>(used: Used, name: Named<'t>, plain: bool) -> WrongCause<'t> {
@@ -213,13 +215,15 @@ fn of_use<'t>(
 ) -> Result<Option<Wrong<'t>>, AllocError> {
     let name = name_at(text, steps, 0);
     if is_special(name.name) {
-        return Ok(of_special(used, name, is_plain(steps)));
+        return Ok(of_name(name, special(used, name, is_plain(steps))));
     }
     let meaning = meaning(text, marks, at, used.owner, name.name);
     of_meaning(alloc, text, front(marks, at), used, steps, meaning)
 }
 
-fn sort_of(meaning: Saying) -> NameSort {
+fn sort_of(meaning: Saying) -> NameSort
+    ensures { result ≡ sort_there meaning }
+{
     match meaning {
         Saying::Constant => NameSort::Constant,
         Saying::Typedef(_) => NameSort::Typedef,
@@ -364,7 +368,10 @@ fn declared_at(text: &[u8], marks: &[Mark<'_>], at: usize) -> Option<usize> {
     }
 }
 
-fn told(wrong: Option<Wrong<'_>>, first: Option<usize>) -> Finding<'_> {
+fn told(wrong: Option<Wrong<'_>>, first: Option<usize>) -> Finding<'_>
+    ensures place { result.place ≡ option_map (λ w. w.place) wrong.entry }
+    ensures cause { is_wrong result.cause ≡ true }
+{
     match wrong {
         Some(wrong) => at_place(wrong.place, Reason::Wrong(wrong.cause, first)),
         None => untold(),
@@ -378,7 +385,9 @@ pub fn of_wrong<'t>(
     tokens: &[Token<'_>],
     marks: &[Mark<'_>],
     at: usize,
-) -> Result<Finding<'t>, AllocError> {
+) -> Result<Finding<'t>, AllocError>
+    ensures { OnOk result (λ found. is_wrong found.cause ≡ true) }
+{
     match wrong_at(alloc, text, tokens, marks, at) {
         Ok(wrong) => Ok(told(wrong, declared_at(text, marks, at))),
         Err(AllocError) => Err(AllocError),

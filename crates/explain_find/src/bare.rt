@@ -2,8 +2,10 @@
 
 ghost use Rattle.std.specs.Prelude.{◌≡◌};
 
-use explain_cause::cause::{Finding, NameSort, Named, Reason, UnknownCause};
+use explain_cause::cause::{Finding, NameSort, Reason, UnknownCause};
+use explain_cause::place::is_among;
 use explain_syntax::definition_of;
+use explain_syntax::kinds::PARTING;
 use pml_token::token::{Kind, Token};
 
 /// The name that is declared nowhere, where a variable is wanted.
@@ -16,32 +18,13 @@ fn lacking<'t>(cause: Reason<'t>) -> Option<&'t [u8]> {
     }
 }
 
-/// Where an inline of that name is defined.
-fn inline_of<'t>(text: &'t [u8], tokens: &[Token<'_>], cause: Reason<'t>) -> Option<Named<'t>> {
-    definition_of(text, tokens, lacking(cause)?)
-}
-
-/// Whether a token ends a statement, or begins what statements stand in.
-fn parts(kind: Kind) -> bool {
-    matches!(
-        kind,
-        Kind::Semicolon
-            | Kind::Arrow
-            | Kind::DoubleColon
-            | Kind::OpenBrace
-            | Kind::CloseBrace
-            | Kind::Fi
-            | Kind::Od
-    )
-}
-
 /// Whether a name is a statement by itself where so many bytes stand before it.
 fn is_statement(tokens: &[Token<'_>], offset: usize) -> bool {
     let mut before = Kind::End;
     let mut is_there = false;
     for token in tokens {
         if is_there {
-            return parts(before) && parts(token.kind());
+            return is_among(before, &PARTING) && is_among(token.kind(), &PARTING);
         }
         is_there = token.line() as usize == offset;
         before = if is_there { before } else { token.kind() };
@@ -66,8 +49,10 @@ fn alone<'t>(tokens: &[Token<'_>], finding: Finding<'t>) -> Option<Reason<'t>> {
 
 /// The same cause, or that a name is one of an inline, or a statement by itself.
 fn told<'t>(text: &'t [u8], tokens: &[Token<'_>], finding: Finding<'t>) -> Reason<'t> {
-    if let Some(inline) = inline_of(text, tokens, finding.cause) {
-        return Reason::Unknown(UnknownCause::Inline(inline));
+    if let Some(name) = lacking(finding.cause) {
+        if let Some(inline) = definition_of(text, tokens, name) {
+            return Reason::Unknown(UnknownCause::Inline(inline));
+        }
     }
     match alone(tokens, finding) {
         Some(cause) => cause,

@@ -3,7 +3,9 @@
 use crate::begun::{ActiveProcesses, with_begun};
 use crate::tree::is_refused_at_start;
 use explain_cause::cause::{Finding, Hazard, Reason, Segment, StartCause};
-use explain_cause::place::{at_place, between, bytes_of, from, is_at, kind_at, place_of, untold};
+use explain_cause::place::{
+    at_place, between, bytes_of, from, index_at, is_at, kind_at, place_of, untold,
+};
 use explain_condition::spans::{assign_of, end_of_initialiser, initialiser_place};
 use pml_token::token::{Kind, Token};
 use promela_model::mark::{Declared, Mark, Role, What};
@@ -17,29 +19,14 @@ struct Initialiser {
     end: usize,
 }
 
-/// The token of this place at or behind `first`.
-fn index_from(tokens: &[Token<'_>], first: usize, wanted: u32) -> Option<usize> {
-    for (i, token) in from(tokens, first).iter().enumerate() {
-        if token.line() == wanted {
-            return Some(first.saturating_add(i));
-        }
-    }
-    None
-}
-
-/// The place of the variable that a mark declares.
-fn variable_place(mark: &Mark<'_>) -> Option<u32> {
-    match &mark.what {
-        What::Declares(name, Declared::Variable(Role::Variable, _, _, _)) => Some(name.line()),
-        _ => None,
-    }
-}
-
 /// The name of the variable that a mark declares, at or behind `first`.
 fn variable_from(tokens: &[Token<'_>], first: usize, mark: &Mark<'_>) -> Option<usize> {
-    match variable_place(mark) {
-        Some(place) => index_from(tokens, first, place),
-        None => None,
+    match &mark.what {
+        What::Declares(name, Declared::Variable(Role::Variable, _, _, _)) => {
+            let passed = index_at(from(tokens, first), name.line() as usize)?;
+            Some(first.saturating_add(passed))
+        }
+        _ => None,
     }
 }
 
@@ -148,11 +135,6 @@ fn has_fault(
 /// So many tokens are checked at most for a fault, besides those of two texts as long as this one.
 const MOST_CHECKED: usize = 40_000;
 
-/// How often tokens are checked at most: the fewer times, the more they are.
-fn most_checks(tokens: &[Token<'_>]) -> usize {
-    MOST_CHECKED / tokens.len().max(1) + 2
-}
-
 /// The fewest initialisers of which one comes to a fault, if that is found by so many checks.
 fn fewest_faulty(
     alloc: Global,
@@ -161,7 +143,8 @@ fn fewest_faulty(
 ) -> Result<Option<usize>, AllocError> {
     let mut least = 0usize;
     let mut most = list.len();
-    for _ in 0..most_checks(tokens) {
+    // The more tokens there are, the fewer times they are checked.
+    for _ in 0..MOST_CHECKED / tokens.len().max(1) + 2 {
         if most.saturating_sub(least) <= 1 {
             return Ok(Some(most));
         }

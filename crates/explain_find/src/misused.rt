@@ -7,7 +7,7 @@ use crate::inlines::is_of_misuse;
 use crate::kept::placeless;
 use explain_cause::cause::{Finding, InlineCause, Named, Reason};
 use explain_cause::place::{at_token, between, bytes_of, named, untold};
-use explain_syntax::stopped::is_type;
+use explain_syntax::kinds::is_type;
 use pml_token::token::{Kind, Token};
 use promela_text::misuse::{Misuse, Rule};
 

@@ -1,10 +1,31 @@
 //! Calls, by the tokens of the text and by those that come out of calls.
 
-use crate::forms::kind_before;
-use crate::stopped::{begin_of, is_before, name_at, name_before};
+ghost use Rattle.std.specs.Prelude.{◌≡◌, true, IfSome};
+ghost use Rattle.explain_syntax.specs.Wanted as sorts;
+ghost use Rattle.explain_syntax.specs.Beside as beside;
+
+use crate::kinds::{BEFORE_VALUES, BEHIND_VALUES};
+use crate::stopped::{begin_of, is_before, kind_before, name_at, name_before};
 use explain_cause::cause::{Expected, Named};
-use explain_cause::place::{between, is_at, kind_at, named};
-use pml_token::token::{Kind, Token};
+use explain_cause::place::{between, index_at, is_among, is_at, kind_at, named};
+use pml_token::token::{Kind, Token, same_kind};
+
+/// The first token with this text that stands directly behind one of a kind, as the name behind `inline` or `proctype`.
+pub fn name_behind<'t>(
+    text: &'t [u8],
+    tokens: &[Token<'_>],
+    kind: Kind,
+    name: &[u8],
+) -> Option<Named<'t>> {
+    let mut is_behind = false;
+    for token in tokens {
+        if is_behind && token.text() == name {
+            return Some(named(text, token));
+        }
+        is_behind = same_kind(token.kind(), kind);
+    }
+    None
+}
 
 /// Where an inline of this name is defined.
 pub fn definition_of<'t>(
@@ -12,29 +33,14 @@ pub fn definition_of<'t>(
     originals: &[Token<'_>],
     name: &[u8],
 ) -> Option<Named<'t>> {
-    let mut defines = false;
-    for token in originals {
-        if defines && token.text() == name {
-            return Some(named(text, token));
-        }
-        defines = matches!(token.kind(), Kind::Inline);
-    }
-    None
+    name_behind(text, originals, Kind::Inline, name)
 }
 
 /// Whether a name with `(` behind it seems to call something.
-pub fn is_call(tokens: &[Token<'_>], at: usize) -> bool {
+pub fn is_call(tokens: &[Token<'_>], at: usize) -> bool
+    ensures { result ≡ beside.is_call tokens.now at }
+{
     is_at(tokens, at, Kind::OpenParen) && is_before(tokens, at, 1, Kind::Name)
-}
-
-/// The token of the text that so many bytes stand before.
-fn index_of(originals: &[Token<'_>], offset: usize) -> Option<usize> {
-    for (i, token) in originals.iter().enumerate() {
-        if token.line() as usize == offset {
-            return Some(i);
-        }
-    }
-    None
 }
 
 /// The name at a place of the text, where it calls an inline whose body stands before it and begins before a place.
@@ -68,45 +74,8 @@ pub fn call_at<'t>(
     if !is_at(tokens, at, Kind::OpenBrace) || before <= body {
         return None;
     }
-    let behind = index_of(originals, before)?.saturating_add(1);
+    let behind = index_at(originals, before)?.saturating_add(1);
     call_of(text, originals, behind, body)
-}
-
-/// Whether a value is wanted behind a token of this kind.
-fn wants_value(kind: Kind) -> bool {
-    matches!(
-        kind,
-        Kind::Assign
-            | Kind::OpenParen
-            | Kind::Comma
-            | Kind::Equal
-            | Kind::Unequal
-            | Kind::Less
-            | Kind::Greater
-            | Kind::Plus
-            | Kind::Minus
-            | Kind::Bang
-            | Kind::AndAnd
-            | Kind::OrOr
-    )
-}
-
-/// Whether a token of this kind stands between values.
-fn joins_values(kind: Kind) -> bool {
-    matches!(
-        kind,
-        Kind::Equal
-            | Kind::Unequal
-            | Kind::Less
-            | Kind::Greater
-            | Kind::AtMost
-            | Kind::AtLeast
-            | Kind::Plus
-            | Kind::Minus
-            | Kind::Star
-            | Kind::AndAnd
-            | Kind::OrOr
-    )
 }
 
 /// The first name with `(` behind it in the statement of the text that a token stands in.
@@ -134,13 +103,15 @@ pub fn value_at<'t>(
     originals: &[Token<'_>],
     tokens: &[Token<'_>],
     at: usize,
-) -> Option<Expected<'t>> {
+) -> Option<Expected<'t>>
+    ensures { IfSome result (λ wish. sorts.is_inline_value wish ≡ true) }
+{
     let before = kind_before(tokens, at, 1);
-    if wants_value(before) {
+    if is_among(before, &BEFORE_VALUES) {
         return Some(Expected::InlineValue(call_at(text, originals, tokens, at)?));
     }
-    if matches!(before, Kind::CloseBrace) && joins_values(kind_at(tokens, at)) {
-        let own = index_of(originals, name_at(text, tokens, at).offset)?;
+    if matches!(before, Kind::CloseBrace) && is_among(kind_at(tokens, at), &BEHIND_VALUES) {
+        let own = index_at(originals, name_at(text, tokens, at).offset)?;
         return Some(Expected::InlineValue(call_before(text, originals, own)?));
     }
     None

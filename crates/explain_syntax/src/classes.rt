@@ -30,31 +30,25 @@ const TRIALS: [(Phrase, Kind, &[u8]); 18] = [
     (Phrase::Operator, Kind::Plus, b"+"),
 ];
 
-/// Nothing.
-fn none() -> Classes {
-    Classes {
-        first: None,
-        second: None,
-        third: None,
-        fourth: None,
-    }
-}
-
-/// Whether what begins with a word or a number may stand there by what was found first.
-fn takes_words(found: Classes) -> bool {
-    matches!(
-        found.first,
-        Some(Phrase::Unit) | Some(Phrase::Statement) | Some(Phrase::Expression) | Some(Phrase::Type)
-    )
-}
+/// Nothing may stand there.
+const NOTHING: Classes = Classes {
+    first: None,
+    second: None,
+    third: None,
+    fourth: None,
+};
 
 /// Whether what was found says of a class what it says.
 fn says(found: Classes, class: Phrase) -> bool {
+    let takes_words = matches!(
+        found.first,
+        Some(Phrase::Unit) | Some(Phrase::Statement) | Some(Phrase::Expression) | Some(Phrase::Type)
+    );
     let is_word = matches!(
         class,
         Phrase::Expression | Phrase::Type | Phrase::Name | Phrase::OpenParen | Phrase::OpenBrace
     );
-    is_word && takes_words(found)
+    is_word && takes_words
 }
 
 /// The same with one more, or as many as there may be.
@@ -103,7 +97,7 @@ fn with(found: Classes, class: Phrase) -> Classes {
 
 /// At most four of what may stand in place of the token at `at`, or none.
 pub fn classes_at(alloc: Global, tokens: &[Token<'_>], at: usize) -> Result<Classes, AllocError> {
-    let mut found = none();
+    let mut found = NOTHING;
     if at > MOST_READ {
         return Ok(found);
     }

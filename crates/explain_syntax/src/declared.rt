@@ -1,23 +1,27 @@
 //! Slips of declarations and of words that have one form: names side by side or without a type, and what cannot stand there.
 
-use crate::called::{call_at, definition_of};
-use crate::forms::{are_before, kind_before, kind_behind};
-use crate::stopped::{begin_of, begins_line, is_before, is_in_statement, is_type, name_at};
-use crate::words::{foreign_beside, proctype_of};
+ghost use Rattle.std.specs.Prelude.{◌≡◌, true, IfSome};
+ghost use Rattle.explain_syntax.specs.Wanted as sorts;
+
+use crate::called::{call_at, definition_of, name_behind};
+use crate::kinds::{
+    CHANNEL_QUESTIONS, DECLARATION_ENDS, NO_LABELS, OF_CONDITIONS, PLAIN_TYPES, RECEIVES,
+    STATEMENT_ENDS, SUMS, is_type,
+};
+use crate::stopped::{
+    are_before, begin_of, begins_line, has_in_statement, is_before, is_in_statement, is_open,
+    kind_before, kind_behind, name_at,
+};
+use crate::words::foreign_beside;
 use explain_cause::brackets::closing;
 use explain_cause::cause::{Expected, Named};
 use explain_cause::foreign::Foreign;
-use explain_cause::place::{between, is_at, kind_at};
+use explain_cause::place::{between, is_among, is_at, kind_at};
 use pml_token::token::{Kind, Token, same_kind};
-
-/// Whether a kind is that of a type that stands before a name.
-fn is_plain_type(kind: Kind) -> bool {
-    is_type(kind) || same_kind(kind, Kind::Unsigned)
-}
 
 /// Whether a name that a type stands before stands directly before a token.
 fn is_typed_name(tokens: &[Token<'_>], at: usize) -> bool {
-    is_before(tokens, at, 1, Kind::Name) && is_plain_type(kind_before(tokens, at, 2))
+    is_before(tokens, at, 1, Kind::Name) && is_among(kind_before(tokens, at, 2), &PLAIN_TYPES)
 }
 
 /// What a sign behind the name of a parameter is meant for.
@@ -26,7 +30,9 @@ pub fn behind_parameter(
     opener: usize,
     at: usize,
     kind: Kind,
-) -> Option<Foreign> {
+) -> Option<Foreign>
+    ensures { IfSome result (λ form. sorts.is_within form ≡ true) }
+{
     if !is_before(tokens, opener, 2, Kind::Proctype) || !is_typed_name(tokens, at) {
         return None;
     }
@@ -43,27 +49,14 @@ pub fn is_half_range(tokens: &[Token<'_>], opener: usize, at: usize) -> bool {
     is_before(tokens, opener, 1, Kind::For) && has_colon && is_at(tokens, at, Kind::CloseParen)
 }
 
-/// Whether a token parts declarations, or ends one.
-fn ends_declaration(kind: Kind) -> bool {
-    matches!(
-        kind,
-        Kind::Semicolon | Kind::Comma | Kind::CloseBrace | Kind::OpenBracket
-    )
-}
-
-/// Whether the fields of a typedef are open.
-fn is_of_typedef(tokens: &[Token<'_>], opener: usize) -> bool {
-    is_before(tokens, opener, 2, Kind::Typedef)
-}
-
 /// Whether a name without a type stands directly before a token that ends a declaration.
 fn is_untyped(tokens: &[Token<'_>], opener: Option<usize>, at: usize) -> bool {
-    if !ends_declaration(kind_at(tokens, at)) || !is_before(tokens, at, 1, Kind::Name) {
+    if !is_among(kind_at(tokens, at), &DECLARATION_ENDS) || !is_before(tokens, at, 1, Kind::Name) {
         return false;
     }
     let before = kind_before(tokens, at, 2);
     match opener {
-        Some(open) if is_of_typedef(tokens, open) => {
+        Some(open) if is_before(tokens, open, 2, Kind::Typedef) => {
             matches!(before, Kind::OpenBrace | Kind::Semicolon)
         }
         None => matches!(before, Kind::Semicolon | Kind::CloseBrace),
@@ -73,8 +66,8 @@ fn is_untyped(tokens: &[Token<'_>], opener: Option<usize>, at: usize) -> bool {
 
 /// The second of two names side by side, directly before a token, in a declaration that begins with a type.
 fn second_before<'t>(text: &'t [u8], tokens: &[Token<'_>], at: usize) -> Option<Named<'t>> {
-    let ends = ends_declaration(kind_at(tokens, at)) || is_at(tokens, at, Kind::Assign);
-    let is_declared = is_plain_type(kind_at(tokens, begin_of(tokens, at)));
+    let ends = is_among(kind_at(tokens, at), &DECLARATION_ENDS) || is_at(tokens, at, Kind::Assign);
+    let is_declared = is_among(kind_at(tokens, begin_of(tokens, at)), &PLAIN_TYPES);
     if ends && is_declared && are_before(tokens, at, Kind::Name, Kind::Name) {
         Some(name_at(text, tokens, at.saturating_sub(1)))
     } else {
@@ -86,7 +79,10 @@ fn second_before<'t>(text: &'t [u8], tokens: &[Token<'_>], at: usize) -> Option<
 fn second_at<'t>(text: &'t [u8], tokens: &[Token<'_>], at: usize) -> Option<Named<'t>> {
     let is_named = is_at(tokens, at, Kind::Name) && is_typed_name(tokens, at);
     let name = name_at(text, tokens, at);
-    if is_named && ends_declaration(kind_behind(tokens, at)) && !begins_line(text, name.offset) {
+    if is_named
+        && is_among(kind_behind(tokens, at), &DECLARATION_ENDS)
+        && !begins_line(text, name.offset)
+    {
         Some(name)
     } else {
         None
@@ -94,9 +90,11 @@ fn second_at<'t>(text: &'t [u8], tokens: &[Token<'_>], at: usize) -> Option<Name
 }
 
 /// What is told of the name directly before a token: the one of a proctype, or of what has no type.
-fn without_type<'t>(text: &'t [u8], tokens: &[Token<'_>], at: usize) -> Expected<'t> {
+fn without_type<'t>(text: &'t [u8], tokens: &[Token<'_>], at: usize) -> Expected<'t>
+    ensures { sorts.is_untyped result ≡ true }
+{
     let name = name_at(text, tokens, at.saturating_sub(1));
-    match proctype_of(text, tokens, name.name) {
+    match name_behind(text, tokens, Kind::Proctype, name.name) {
         Some(proctype) => Expected::RunOf(proctype, name),
         None => Expected::Untyped(name),
     }
@@ -108,7 +106,9 @@ pub fn names_beside<'t>(
     tokens: &[Token<'_>],
     opener: Option<usize>,
     at: usize,
-) -> Option<Expected<'t>> {
+) -> Option<Expected<'t>>
+    ensures { IfSome result (λ wish. sorts.is_beside wish ≡ true) }
+{
     if foreign_beside(text, tokens, at).is_some() {
         return None;
     }
@@ -119,68 +119,12 @@ pub fn names_beside<'t>(
     Some(Expected::CommaBefore(second?))
 }
 
-/// Whether a sign compares values, or joins conditions.
-fn is_of_condition(kind: Kind) -> bool {
-    matches!(
-        kind,
-        Kind::AndAnd
-            | Kind::OrOr
-            | Kind::Equal
-            | Kind::Unequal
-            | Kind::Less
-            | Kind::Greater
-            | Kind::AtMost
-            | Kind::AtLeast
-    )
-}
-
-/// Whether a sign computes with two values.
-fn computes(kind: Kind) -> bool {
-    matches!(
-        kind,
-        Kind::Plus | Kind::Minus | Kind::Star | Kind::Slash | Kind::Percent
-    )
-}
-
 /// Whether a sign that computes or stores stands behind an argument of a receive.
 fn is_of_receive(tokens: &[Token<'_>], at: usize, kind: Kind) -> bool {
-    let receives = is_in_statement(tokens, at, Kind::Query)
-        || is_in_statement(tokens, at, Kind::QueryQuery);
+    let receives = has_in_statement(tokens, at, &RECEIVES);
     let is_behind = matches!(kind_before(tokens, at, 1), Kind::Name | Kind::Number);
-    let is_sign = computes(kind) || same_kind(kind, Kind::Assign);
+    let is_sign = is_among(kind, &SUMS) || same_kind(kind, Kind::Assign);
     is_sign && is_behind && receives && !is_in_statement(tokens, at, Kind::Eval)
-}
-
-/// Whether a token is none of a label.
-fn is_no_label(kind: Kind) -> bool {
-    matches!(
-        kind,
-        Kind::Semicolon
-            | Kind::Arrow
-            | Kind::DoubleColon
-            | Kind::CloseBrace
-            | Kind::Fi
-            | Kind::Od
-            | Kind::Number
-            | Kind::Quoted
-            | Kind::OpenParen
-    )
-}
-
-/// Whether a statement ends at a token of this kind.
-pub fn ends_statement(kind: Kind) -> bool {
-    matches!(
-        kind,
-        Kind::Semicolon | Kind::Arrow | Kind::DoubleColon | Kind::CloseBrace | Kind::Fi | Kind::Od
-    )
-}
-
-/// Whether a word asks a channel for what it holds.
-pub fn asks_channel(kind: Kind) -> bool {
-    matches!(
-        kind,
-        Kind::Len | Kind::Empty | Kind::Full | Kind::Nempty | Kind::Nfull
-    )
 }
 
 /// Whether a `<` stands behind the `?` of a token's statement.
@@ -196,20 +140,21 @@ fn is_peek(tokens: &[Token<'_>], at: usize) -> bool {
 }
 
 /// What a token is meant for that stands behind a word that takes one thing alone.
-fn behind_word(tokens: &[Token<'_>], at: usize, kind: Kind) -> Option<Foreign> {
+fn behind_word(tokens: &[Token<'_>], at: usize, kind: Kind) -> Option<Foreign>
+    ensures { IfSome result (λ form. sorts.is_behind_word form ≡ true) }
+{
     match kind_before(tokens, at, 1) {
-        Kind::Else if is_of_condition(kind) => Some(Foreign::ElseCondition),
-        Kind::Increment | Kind::Decrement if is_of_condition(kind) || computes(kind) => {
-            Some(Foreign::Postfix)
-        }
-        Kind::Goto if is_no_label(kind) => Some(Foreign::GotoLabel),
+        Kind::Else if is_among(kind, &OF_CONDITIONS) => Some(Foreign::ElseCondition),
+        Kind::Increment | Kind::Decrement
+            if is_among(kind, &OF_CONDITIONS) || is_among(kind, &SUMS) => { Some(Foreign::Postfix) }
+        Kind::Goto if is_among(kind, &NO_LABELS) => Some(Foreign::GotoLabel),
         Kind::DoubleColon if same_kind(kind, Kind::Arrow) => Some(Foreign::OptionArrow),
-        Kind::Unless if ends_statement(kind) => Some(Foreign::Try),
+        Kind::Unless if is_among(kind, &STATEMENT_ENDS) => Some(Foreign::Try),
         Kind::Eval if same_kind(kind, Kind::Name) => Some(Foreign::EvalParens),
         Kind::True | Kind::False if same_kind(kind, Kind::OpenParen) => {
             Some(Foreign::ValueParens)
         }
-        before if asks_channel(before) && same_kind(kind, Kind::Name) => {
+        before if is_among(before, &CHANNEL_QUESTIONS) && same_kind(kind, Kind::Name) => {
             Some(Foreign::ChannelParens)
         }
         Kind::Assert | Kind::Printf | Kind::Printm | Kind::Eval
@@ -251,16 +196,10 @@ pub fn behind_head(tokens: &[Token<'_>], at: usize) -> Foreign {
     }
 }
 
-/// Whether a token stands in a statement that takes values, as `printf` does.
-pub fn is_in_call(tokens: &[Token<'_>], at: usize) -> bool {
-    is_in_statement(tokens, at, Kind::Printf)
-        || is_in_statement(tokens, at, Kind::Printm)
-        || is_in_statement(tokens, at, Kind::Assert)
-        || is_in_statement(tokens, at, Kind::Run)
-}
-
 /// What a token is meant for by its own kind and what stands before it.
-pub fn declared_form(tokens: &[Token<'_>], at: usize, kind: Kind) -> Option<Foreign> {
+pub fn declared_form(tokens: &[Token<'_>], at: usize, kind: Kind) -> Option<Foreign>
+    ensures { IfSome result (λ form. sorts.is_of_declaration form ≡ true) }
+{
     let is_valued = is_type(kind_before(tokens, at, 1));
     match kind {
         Kind::Assign if are_before(tokens, at, Kind::Unsigned, Kind::Name) => Some(Foreign::Width),
@@ -270,45 +209,23 @@ pub fn declared_form(tokens: &[Token<'_>], at: usize, kind: Kind) -> Option<Fore
         }
         Kind::Equal if is_typed_name(tokens, at) => Some(Foreign::DeclaredEqual),
         Kind::Proctype | Kind::Inline | Kind::Init if is_valued => Some(Foreign::ProctypeType),
-        kind if ends_statement(kind) && is_peek(tokens, at) => Some(Foreign::PeekEnd),
+        kind if is_among(kind, &STATEMENT_ENDS) && is_peek(tokens, at) => Some(Foreign::PeekEnd),
         kind if is_of_receive(tokens, at, kind) => Some(Foreign::ReceiveValue),
         kind => behind_word(tokens, at, kind),
     }
 }
 
-/// Whether a `..` stands behind a token in its statement.
-fn has_range(tokens: &[Token<'_>], at: usize) -> bool {
-    is_at(tokens, at.saturating_add(2), Kind::DotDot)
-}
-
-/// Whether a `do` is open in front of a token.
-fn is_in_loop(tokens: &[Token<'_>], at: usize) -> bool {
-    let mut open = 0usize;
-    for token in between(tokens, 0, at) {
-        match token.kind() {
-            Kind::Do => open = open.saturating_add(1),
-            Kind::Od => open = open.saturating_sub(1),
-            _ => {}
-        }
-    }
-    open > 0
-}
-
 /// What a word of another language is meant for where it stands: `in` and a range are a condition but in the head of a loop, and `done` is a label
 /// where no loop is open.
 pub fn meant_at(tokens: &[Token<'_>], at: usize, foreign: Foreign) -> Foreign {
+    let has_range = is_at(tokens, at.saturating_add(2), Kind::DotDot);
     let is_of_loop = is_in_statement(tokens, at, Kind::For);
     match foreign {
-        Foreign::In if has_range(tokens, at) && is_of_loop => Foreign::LoopIn,
-        Foreign::In if has_range(tokens, at) => Foreign::InRange,
-        Foreign::EndLoop if !is_in_loop(tokens, at) => Foreign::LabelColon,
+        Foreign::In if has_range && is_of_loop => Foreign::LoopIn,
+        Foreign::In if has_range => Foreign::InRange,
+        Foreign::EndLoop if !is_open(tokens, at, &[Kind::Do], &[Kind::Od]) => Foreign::LabelColon,
         foreign => foreign,
     }
-}
-
-/// Whether a name that is declared, or a process that is begun, stands behind a token of this kind.
-fn wants_other_name(kind: Kind) -> bool {
-    is_plain_type(kind) || matches!(kind, Kind::Proctype | Kind::Typedef | Kind::Run)
 }
 
 /// The inline whose name stands where another thing has it.
@@ -317,13 +234,17 @@ pub fn inline_at<'t>(
     originals: &[Token<'_>],
     tokens: &[Token<'_>],
     at: usize,
-) -> Option<Expected<'t>> {
-    if !wants_other_name(kind_before(tokens, at, 1)) {
+) -> Option<Expected<'t>>
+    ensures { IfSome result (λ wish. sorts.is_inline_name wish ≡ true) }
+{
+    let before = kind_before(tokens, at, 1);
+    let is_named = matches!(before, Kind::Proctype | Kind::Typedef | Kind::Run);
+    if !is_named && !is_among(before, &PLAIN_TYPES) {
         return None;
     }
     let call = call_at(text, originals, tokens, at)?;
     let definition = definition_of(text, originals, call.name)?;
-    Some(match kind_before(tokens, at, 1) {
+    Some(match before {
         Kind::Run => Expected::InlineRun(call, definition),
         _ => Expected::NameOfInline(call, definition),
     })

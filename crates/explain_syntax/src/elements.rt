@@ -1,7 +1,10 @@
 //! Elements of arrays, numbers and comments that are written as elsewhere.
 
-use crate::forms::are_before;
-use crate::stopped::{begin_of, is_before, is_type};
+ghost use Rattle.std.specs.Prelude.{◌≡◌, true};
+ghost use Rattle.explain_syntax.specs.Wanted as sorts;
+
+use crate::kinds::is_type;
+use crate::stopped::{are_before, begin_of, is_before};
 use explain_cause::cause::Expected;
 use explain_cause::foreign::Foreign;
 use explain_cause::place::{is_at, kind_at};
@@ -14,7 +17,9 @@ pub fn is_declaration(tokens: &[Token<'_>], at: usize) -> bool {
 }
 
 /// What brackets with nothing in them are meant for, where this stands before them.
-pub fn empty_brackets(tokens: &[Token<'_>], at: usize, before: Kind) -> Foreign {
+pub fn empty_brackets(tokens: &[Token<'_>], at: usize, before: Kind) -> Foreign
+    ensures { sorts.is_of_empty result ≡ true }
+{
     match before {
         Kind::Assign => Foreign::Channel,
         Kind::Name if !is_declaration(tokens, at) => Foreign::EmptyIndex,
@@ -23,7 +28,9 @@ pub fn empty_brackets(tokens: &[Token<'_>], at: usize, before: Kind) -> Foreign 
 }
 
 /// What a `,` in brackets is meant for.
-pub fn in_brackets<'t>(tokens: &[Token<'_>], opener: usize) -> Expected<'t> {
+pub fn in_brackets<'t>(tokens: &[Token<'_>], opener: usize) -> Expected<'t>
+    ensures { sorts.is_list result ≡ true }
+{
     if !is_before(tokens, opener, 1, Kind::Name) {
         Expected::NoList
     } else if is_declaration(tokens, opener) {

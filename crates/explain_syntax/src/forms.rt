@@ -1,51 +1,19 @@
 //! Forms of other languages, told by the sign that no rule reads and its neighbours.
 
-use crate::declared::{behind_head, declared_form, is_function, is_in_call};
+ghost use Rattle.std.specs.Prelude.{◌≡◌, true, IfSome};
+ghost use Rattle.explain_syntax.specs.Wanted as sorts;
+
+use crate::declared::{behind_head, declared_form, is_function};
 use crate::elements::{empty_brackets, is_comment, is_declaration, is_of_thousands};
-use crate::stopped::{begin_of, is_before, is_in_statement, is_type};
+use crate::kinds::{RECEIVES, TAKING_VALUES, is_type};
+use crate::stopped::{
+    are_before, begin_of, has_in_statement, is_before, is_in_statement, kind_before, kind_behind,
+};
+use crate::tables::{ASSIGNS, BRACES, NAMED_PARENS, PARENS, form_for};
 use crate::typed::form_of_word;
 use explain_cause::foreign::Foreign;
 use explain_cause::place::{is_at, kind_at};
 use pml_token::token::{Kind, Token, same_kind};
-
-/// The kind of the token that stands so many before the one at `at`.
-pub fn kind_before(tokens: &[Token<'_>], at: usize, count: usize) -> Kind {
-    match at.checked_sub(count) {
-        Some(place) => kind_at(tokens, place),
-        None => Kind::End,
-    }
-}
-
-/// The kind of the token directly behind the one at `at`.
-pub fn kind_behind(tokens: &[Token<'_>], at: usize) -> Kind {
-    kind_at(tokens, at.saturating_add(1))
-}
-
-/// Whether these two kinds stand in front of a token, the second directly before it.
-pub fn are_before(tokens: &[Token<'_>], at: usize, first: Kind, second: Kind) -> bool {
-    is_before(tokens, at, 2, first) && is_before(tokens, at, 1, second)
-}
-
-/// What a `=` behind this kind is meant for.
-fn compared(before: Kind) -> Option<Foreign> {
-    match before {
-        Kind::Name | Kind::CloseBracket => Some(Foreign::Comparison),
-        Kind::CloseParen | Kind::Number => Some(Foreign::Target),
-        Kind::Assign => Some(Foreign::TwoEquals),
-        Kind::Mtype => Some(Foreign::NamedMtype),
-        before if is_type(before) => Some(Foreign::TypeName),
-        _ => None,
-    }
-}
-
-/// What a `=` behind `(` and a name is meant for.
-fn ranged(before: Kind) -> Foreign {
-    match before {
-        Kind::For => Foreign::Counting,
-        Kind::Select => Foreign::SelectRange,
-        _ => Foreign::Comparison,
-    }
-}
 
 /// What a `=` is meant for.
 fn at_assign(tokens: &[Token<'_>], at: usize) -> Option<Foreign> {
@@ -67,24 +35,13 @@ fn at_assign(tokens: &[Token<'_>], at: usize) -> Option<Foreign> {
         return Some(Foreign::ThreeEquals);
     }
     if are_before(tokens, at, Kind::OpenParen, Kind::Name) {
-        return Some(ranged(kind_before(tokens, at, 3)));
+        return Some(match kind_before(tokens, at, 3) {
+            Kind::For => Foreign::Counting,
+            Kind::Select => Foreign::SelectRange,
+            _ => Foreign::Comparison,
+        });
     }
-    compared(kind_before(tokens, at, 1))
-}
-
-/// What a `{` behind this kind is meant for.
-fn braced(before: Kind) -> Option<Foreign> {
-    match before {
-        Kind::CloseBracket => Some(Foreign::Channel),
-        Kind::Typedef => Some(Foreign::Record),
-        Kind::Mtype => Some(Foreign::NamedMtype),
-        Kind::For => Some(Foreign::EndlessLoop),
-        Kind::Select => Some(Foreign::SelectCases),
-        Kind::Bang | Kind::BangBang | Kind::Query | Kind::QueryQuery => {
-            Some(Foreign::MessageFields)
-        }
-        _ => None,
-    }
+    form_for(kind_before(tokens, at, 1), &ASSIGNS)
 }
 
 /// Whether a name stands before a `{`, and a number or a name alone between it and its `}`.
@@ -94,35 +51,12 @@ fn is_element(tokens: &[Token<'_>], at: usize) -> bool {
         && is_at(tokens, at.saturating_add(2), Kind::CloseBrace)
 }
 
-/// What a `(` behind a word is meant for.
-fn behind_word(before: Kind) -> Option<Foreign> {
-    match before {
-        Kind::Init => Some(Foreign::InitParameters),
-        Kind::Timeout => Some(Foreign::TimeoutArgument),
-        Kind::Active => Some(Foreign::ActiveCount),
-        Kind::Of => Some(Foreign::ChannelTypes),
-        Kind::Atomic | Kind::DStep => Some(Foreign::BraceBody),
-        Kind::Skip | Kind::Break => Some(Foreign::NoParens),
-        Kind::Else => Some(Foreign::ElseArrow),
-        _ => None,
-    }
-}
-
-/// What a `(` behind a name is meant for, where this stands before the name.
-fn behind_name(before: Kind) -> Option<Foreign> {
-    match before {
-        Kind::Typedef => Some(Foreign::Record),
-        before if is_type(before) => Some(Foreign::Array),
-        _ => None,
-    }
-}
-
 /// What a `(` is meant for.
 fn at_paren(tokens: &[Token<'_>], at: usize) -> Option<Foreign> {
     match kind_before(tokens, at, 1) {
         Kind::Name if is_function(tokens, at) => Some(Foreign::Function),
-        Kind::Name => behind_name(kind_before(tokens, at, 2)),
-        before => behind_word(before),
+        Kind::Name => form_for(kind_before(tokens, at, 2), &NAMED_PARENS),
+        before => form_for(before, &PARENS),
     }
 }
 
@@ -143,9 +77,14 @@ fn at_bracket(tokens: &[Token<'_>], at: usize, before: Kind) -> Option<Foreign> 
 }
 
 /// What a `?` is meant for.
-fn at_query(tokens: &[Token<'_>], at: usize, before: Kind) -> Foreign {
+fn at_query(tokens: &[Token<'_>], at: usize, before: Kind) -> Foreign
+    ensures { sorts.is_of_query result ≡ true }
+{
     let is_named = matches!(before, Kind::Name | Kind::CloseBracket);
-    if is_named && (is_before(tokens, at, 2, Kind::Assign) || is_in_call(tokens, at)) {
+    if is_named
+        && (is_before(tokens, at, 2, Kind::Assign)
+            || has_in_statement(tokens, at, &TAKING_VALUES))
+    {
         Foreign::ReceivedValue
     } else if is_named && is_before(tokens, at, 2, Kind::Comma) {
         Foreign::TwoMessages
@@ -163,14 +102,16 @@ fn at_opener(tokens: &[Token<'_>], at: usize, kind: Kind) -> Option<Foreign> {
         Kind::OpenParen => at_paren(tokens, at),
         Kind::OpenBracket => at_bracket(tokens, at, before),
         Kind::OpenBrace if is_element(tokens, at) => Some(Foreign::Element),
-        Kind::OpenBrace => braced(before),
+        Kind::OpenBrace => form_for(before, &BRACES),
         Kind::Query => Some(at_query(tokens, at, before)),
         _ => None,
     }
 }
 
 /// What braces with nothing in them are meant for.
-fn empty_braces(tokens: &[Token<'_>], at: usize) -> Foreign {
+fn empty_braces(tokens: &[Token<'_>], at: usize) -> Foreign
+    ensures { sorts.is_of_empty result ≡ true }
+{
     match kind_before(tokens, at, 2) {
         Kind::Of => Foreign::NoFields,
         Kind::Mtype | Kind::Assign => Foreign::Enumeration,
@@ -180,7 +121,9 @@ fn empty_braces(tokens: &[Token<'_>], at: usize) -> Foreign {
 }
 
 /// Whether an option, braces or brackets have nothing in them where a token stands.
-fn at_empty(tokens: &[Token<'_>], at: usize, kind: Kind) -> Option<Foreign> {
+fn at_empty(tokens: &[Token<'_>], at: usize, kind: Kind) -> Option<Foreign>
+    ensures { IfSome result (λ form. sorts.is_of_empty form ≡ true) }
+{
     let before = kind_before(tokens, at, 1);
     match kind {
         Kind::Fi | Kind::Od | Kind::DoubleColon if same_kind(before, Kind::DoubleColon) => {
@@ -198,7 +141,9 @@ fn at_empty(tokens: &[Token<'_>], at: usize, kind: Kind) -> Option<Foreign> {
 }
 
 /// What a `*` is meant for.
-fn at_star(tokens: &[Token<'_>], at: usize, before: Kind) -> Option<Foreign> {
+fn at_star(tokens: &[Token<'_>], at: usize, before: Kind) -> Option<Foreign>
+    ensures { IfSome result (λ form. sorts.is_of_star form ≡ true) }
+{
     if same_kind(kind_behind(tokens, at), Kind::Slash) {
         Some(Foreign::CommentEnd)
     } else if same_kind(before, Kind::Star) {
@@ -217,17 +162,10 @@ fn is_declared_name(tokens: &[Token<'_>], at: usize) -> bool {
     declares && is_before(tokens, at, 1, Kind::Name)
 }
 
-/// What a `++` or a `--` in front of this kind is meant for.
-fn stepped(behind: Kind) -> Foreign {
-    match behind {
-        Kind::Name => Foreign::Prefix,
-        Kind::Greater => Foreign::FatArrow,
-        _ => Foreign::Postfix,
-    }
-}
-
 /// What a sign of arithmetic is meant for.
-fn at_operator(tokens: &[Token<'_>], at: usize, kind: Kind) -> Option<Foreign> {
+fn at_operator(tokens: &[Token<'_>], at: usize, kind: Kind) -> Option<Foreign>
+    ensures { IfSome result (λ form. sorts.is_of_operator form ≡ true) }
+{
     let before = kind_before(tokens, at, 1);
     match kind {
         kind if is_comment(tokens, at, kind) => Some(Foreign::CommentSign),
@@ -240,13 +178,19 @@ fn at_operator(tokens: &[Token<'_>], at: usize, kind: Kind) -> Option<Foreign> {
         Kind::Plus | Kind::Percent if same_kind(before, Kind::Quoted) => Some(Foreign::PrintJoined),
         Kind::Minus | Kind::Dot if is_declared_name(tokens, at) => Some(Foreign::NameSigns),
         Kind::Tilde if same_kind(kind_behind(tokens, at), Kind::Assign) => Some(Foreign::Unequal),
-        Kind::Increment | Kind::Decrement => Some(stepped(kind_behind(tokens, at))),
+        Kind::Increment | Kind::Decrement => Some(match kind_behind(tokens, at) {
+            Kind::Name => Foreign::Prefix,
+            Kind::Greater => Foreign::FatArrow,
+            _ => Foreign::Postfix,
+        }),
         _ => None,
     }
 }
 
 /// What a `<` is meant for.
-fn at_less(tokens: &[Token<'_>], at: usize, before: Kind) -> Option<Foreign> {
+fn at_less(tokens: &[Token<'_>], at: usize, before: Kind) -> Option<Foreign>
+    ensures { IfSome result (λ form. sorts.is_of_less form ≡ true) }
+{
     match before {
         Kind::Chan => Some(Foreign::Channel),
         Kind::Bang | Kind::BangBang => Some(Foreign::MessageFields),
@@ -259,7 +203,9 @@ fn at_less(tokens: &[Token<'_>], at: usize, before: Kind) -> Option<Foreign> {
 }
 
 /// What a sign of a comparison or a condition is meant for.
-fn at_comparison(tokens: &[Token<'_>], at: usize, kind: Kind) -> Option<Foreign> {
+fn at_comparison(tokens: &[Token<'_>], at: usize, kind: Kind) -> Option<Foreign>
+    ensures { IfSome result (λ form. sorts.is_of_comparison form ≡ true) }
+{
     let before = kind_before(tokens, at, 1);
     match kind {
         Kind::Less => at_less(tokens, at, before),
@@ -275,10 +221,10 @@ fn at_comparison(tokens: &[Token<'_>], at: usize, kind: Kind) -> Option<Foreign>
 }
 
 /// What a sign of a condition is meant for behind a receive.
-fn behind_receive(tokens: &[Token<'_>], at: usize) -> Option<Foreign> {
-    let receives = is_in_statement(tokens, at, Kind::Query)
-        || is_in_statement(tokens, at, Kind::QueryQuery);
-    if receives && !is_at(tokens, at, Kind::Arrow) {
+fn behind_receive(tokens: &[Token<'_>], at: usize) -> Option<Foreign>
+    ensures { IfSome result (λ form. sorts.is_of_comparison form ≡ true) }
+{
+    if has_in_statement(tokens, at, &RECEIVES) && !is_at(tokens, at, Kind::Arrow) {
         Some(Foreign::ReceiveInCondition)
     } else {
         None
@@ -286,7 +232,9 @@ fn behind_receive(tokens: &[Token<'_>], at: usize) -> Option<Foreign> {
 }
 
 /// What a `:` is meant for.
-fn at_colon(tokens: &[Token<'_>], at: usize, before: Kind) -> Option<Foreign> {
+fn at_colon(tokens: &[Token<'_>], at: usize, before: Kind) -> Option<Foreign>
+    ensures { IfSome result (λ form. sorts.is_of_colon form ≡ true) }
+{
     if is_at(tokens, at.saturating_add(1), Kind::Assign) {
         return Some(Foreign::ColonEquals);
     }
@@ -356,7 +304,9 @@ fn is_behind_comma(tokens: &[Token<'_>], at: usize, kind: Kind) -> bool {
 }
 
 /// What a token is meant for that stands where a list of names, a text or a body begins.
-fn at_beginning(tokens: &[Token<'_>], at: usize) -> Option<Foreign> {
+fn at_beginning(tokens: &[Token<'_>], at: usize) -> Option<Foreign>
+    ensures { IfSome result (λ form. sorts.is_of_beginning form ≡ true) }
+{
     if are_before(tokens, at, Kind::Mtype, Kind::Assign) {
         return Some(Foreign::Enumeration);
     }

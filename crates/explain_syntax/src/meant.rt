@@ -1,17 +1,18 @@
 //! What is told before what is open and what stands beside a token: by the layout of lines, by words that are mistyped, and by a sign for `->`.
 
-ghost use Rattle.std.specs.Prelude.{◌≡◌, ◌+◌, IfSome};
+ghost use Rattle.std.specs.Prelude.{◌≡◌, ◌+◌, true, OnOk, IfSome};
+ghost use Rattle.explain_syntax.specs.Wanted as sorts;
 
 use crate::called::is_call;
-use crate::forms::kind_before;
+use crate::kinds::UNITS;
 use crate::layout::{left_by_layout, unclosed_by_layout};
-use crate::stopped::{is_before, name_at, name_before};
+use crate::stopped::{is_before, kind_before, name_at, name_before};
 use crate::tried::is_behind_condition;
-use crate::within::{begins_unit, is_of_fields};
+use crate::within::is_of_fields;
 use crate::words::{foreign_beside, is_declared, near_at};
 use explain_cause::cause::{Expected, Named, Segment};
 use explain_cause::foreign::Foreign;
-use explain_cause::place::{bytes_at, is_at, kind_at};
+use explain_cause::place::{bytes_at, is_among, is_at, kind_at};
 use explain_condition::near::nearest_word;
 use pml_token::token::{Kind, Token};
 use std::alloc::{AllocError, Global};
@@ -23,8 +24,10 @@ fn by_layout<'t>(
     tokens: &[Token<'_>],
     opener: Option<usize>,
     at: usize,
-) -> Result<Option<Expected<'t>>, AllocError> {
-    let suspect = if begins_unit(kind_at(tokens, at)) {
+) -> Result<Option<Expected<'t>>, AllocError>
+    ensures { OnOk result (λ found. IfSome found (λ wish. sorts.is_by_layout wish ≡ true)) }
+{
+    let suspect = if is_among(kind_at(tokens, at), &UNITS) {
         unclosed_by_layout(alloc, text, tokens, opener, at)?
     } else {
         left_by_layout(text, tokens, opener, at)
@@ -42,7 +45,9 @@ fn near_type<'t>(
     tokens: &[Token<'_>],
     opener: Option<usize>,
     at: usize,
-) -> Result<Option<Expected<'t>>, AllocError> {
+) -> Result<Option<Expected<'t>>, AllocError>
+    ensures { OnOk result (λ found. IfSome found (λ wish. sorts.is_word wish ≡ true)) }
+{
     match opener {
         Some(open) if is_of_fields(tokens, open) => near_at(alloc, text, tokens, at),
         _ => Ok(None),
@@ -104,7 +109,9 @@ fn near_run<'t>(
     text: &'t [u8],
     tokens: &[Token<'_>],
     at: usize,
-) -> Result<Option<Expected<'t>>, AllocError> {
+) -> Result<Option<Expected<'t>>, AllocError>
+    ensures { OnOk result (λ found. IfSome found (λ wish. sorts.is_word wish ≡ true)) }
+{
     if !is_call(tokens, at) || !is_before(tokens, at, 2, Kind::Name) {
         return Ok(None);
     }
@@ -117,7 +124,9 @@ fn near_run<'t>(
 }
 
 /// A sign that stands in an option between a condition and an assignment, whose `=` is the token at `at`.
-fn arrow_before<'t>(text: &'t [u8], tokens: &[Token<'_>], at: usize) -> Option<Expected<'t>> {
+fn arrow_before<'t>(text: &'t [u8], tokens: &[Token<'_>], at: usize) -> Option<Expected<'t>>
+    ensures { IfSome result (λ wish. sorts.is_arrow wish ≡ true) }
+{
     let sign = at.checked_sub(2)?;
     let is_assigned = is_at(tokens, at, Kind::Assign) && is_before(tokens, at, 1, Kind::Name);
     let is_sign = matches!(kind_at(tokens, sign), Kind::Greater | Kind::Minus);
@@ -179,7 +188,9 @@ fn near_joined<'t>(
     text: &'t [u8],
     tokens: &[Token<'_>],
     at: usize,
-) -> Result<Option<Expected<'t>>, AllocError> {
+) -> Result<Option<Expected<'t>>, AllocError>
+    ensures { OnOk result (λ found. IfSome found (λ wish. sorts.is_word wish ≡ true)) }
+{
     let Some(name) = joined_before(text, tokens, at) else {
         return Ok(None);
     };
@@ -195,7 +206,9 @@ pub fn near_unit<'t>(
     text: &'t [u8],
     tokens: &[Token<'_>],
     at: usize,
-) -> Result<Option<Expected<'t>>, AllocError> {
+) -> Result<Option<Expected<'t>>, AllocError>
+    ensures { OnOk result (λ found. IfSome found (λ wish. sorts.is_word wish ≡ true)) }
+{
     let opens = matches!(kind_at(tokens, at), Kind::OpenParen | Kind::OpenBrace);
     if opens && is_before(tokens, at, 1, Kind::Name) && is_before(tokens, at, 2, Kind::Name) {
         near_at(alloc, text, tokens, at.saturating_sub(2))

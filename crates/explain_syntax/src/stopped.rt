@@ -1,8 +1,12 @@
 //! What stands in front of the token that no rule reads.
 
+ghost use Rattle.std.specs.Prelude.{◌≡◌, ◌-◌};
+ghost use Rattle.explain_syntax.specs.Beside as beside;
+
+use crate::kinds::{ARITHMETIC, COMPARISONS, JOINING, OPERAND_ENDS, PARTING, WANTING};
 use explain_cause::brackets::{innermost, open_before};
 use explain_cause::cause::Named;
-use explain_cause::place::{between, closes, is_at, kind_at, named};
+use explain_cause::place::{between, is_among, is_at, kind_at, named};
 use pml_token::token::{Kind, Token, same_kind};
 use std::alloc::{AllocError, Global};
 
@@ -23,7 +27,9 @@ pub fn begins_line(text: &[u8], offset: usize) -> bool {
 }
 
 /// The token at a place of a list as a name, or an empty one.
-pub fn name_at<'t>(text: &'t [u8], tokens: &[Token<'_>], at: usize) -> Named<'t> {
+pub fn name_at<'t>(text: &'t [u8], tokens: &[Token<'_>], at: usize) -> Named<'t>
+    ensures { result.offset ≡ beside.offset_at text.now tokens.now at }
+{
     match tokens.get(at) {
         Some(token) => named(text, token),
         None => Named {
@@ -34,15 +40,41 @@ pub fn name_at<'t>(text: &'t [u8], tokens: &[Token<'_>], at: usize) -> Named<'t>
 }
 
 /// Whether so many tokens before the one at `at` one of a kind stands.
-pub fn is_before(tokens: &[Token<'_>], at: usize, count: usize, kind: Kind) -> bool {
+pub fn is_before(tokens: &[Token<'_>], at: usize, count: usize, kind: Kind) -> bool
+    ensures { result ≡ beside.is_before tokens.now at count kind }
+{
     match at.checked_sub(count) {
         Some(place) => is_at(tokens, place, kind),
         None => false,
     }
 }
 
+/// Whether these two kinds stand in front of a token, the second directly before it.
+pub fn are_before(tokens: &[Token<'_>], at: usize, first: Kind, second: Kind) -> bool
+    ensures { result ≡ beside.are_before tokens.now at first second }
+{
+    is_before(tokens, at, 2, first) && is_before(tokens, at, 1, second)
+}
+
+/// The kind of the token that stands so many before the one at `at`.
+pub fn kind_before(tokens: &[Token<'_>], at: usize, count: usize) -> Kind
+    ensures { result ≡ beside.kind_before tokens.now at count }
+{
+    match at.checked_sub(count) {
+        Some(place) => kind_at(tokens, place),
+        None => Kind::End,
+    }
+}
+
+/// The kind of the token directly behind the one at `at`.
+pub fn kind_behind(tokens: &[Token<'_>], at: usize) -> Kind {
+    kind_at(tokens, at.saturating_add(1))
+}
+
 /// The token that stands so many before the one at `at`, or an empty name.
-pub fn name_before<'t>(text: &'t [u8], tokens: &[Token<'_>], at: usize, count: usize) -> Named<'t> {
+pub fn name_before<'t>(text: &'t [u8], tokens: &[Token<'_>], at: usize, count: usize) -> Named<'t>
+    ensures { result.offset ≡ beside.offset_at text.now tokens.now (at - count) }
+{
     name_at(text, tokens, at.saturating_sub(count))
 }
 
@@ -77,35 +109,6 @@ pub enum Neighbours {
     Other,
 }
 
-/// Whether a kind is that of a word that is a type.
-pub fn is_type(kind: Kind) -> bool {
-    matches!(
-        kind,
-        Kind::Bit
-            | Kind::Bool
-            | Kind::Byte
-            | Kind::Chan
-            | Kind::Int
-            | Kind::Mtype
-            | Kind::Pid
-            | Kind::Short
-    )
-}
-
-/// Whether a kind is that of a sign that parts statements or declarations.
-fn parts(kind: Kind) -> bool {
-    matches!(
-        kind,
-        Kind::Semicolon
-            | Kind::Arrow
-            | Kind::DoubleColon
-            | Kind::OpenBrace
-            | Kind::CloseBrace
-            | Kind::Fi
-            | Kind::Od
-    )
-}
-
 /// The first token of the statement or of the declaration that a token stands in, as far as signs part them.
 pub fn begin_of(tokens: &[Token<'_>], at: usize) -> usize {
     let mut begin = 0usize;
@@ -113,11 +116,21 @@ pub fn begin_of(tokens: &[Token<'_>], at: usize) -> usize {
         if i >= at {
             return begin;
         }
-        if parts(token.kind()) {
+        if is_among(token.kind(), &PARTING) {
             begin = i.saturating_add(1);
         }
     }
     begin
+}
+
+/// Whether a token of one of these kinds stands before another one in its statement.
+pub fn has_in_statement(tokens: &[Token<'_>], at: usize, kinds: &[Kind]) -> bool {
+    for token in between(tokens, begin_of(tokens, at), at) {
+        if is_among(token.kind(), kinds) {
+            return true;
+        }
+    }
+    false
 }
 
 /// Whether a token of this kind stands before another one in its statement.
@@ -130,88 +143,22 @@ pub fn is_in_statement(tokens: &[Token<'_>], at: usize, kind: Kind) -> bool {
     false
 }
 
-fn is_arithmetic(kind: Kind) -> bool {
-    matches!(
-        kind,
-        Kind::Plus
-            | Kind::Minus
-            | Kind::Star
-            | Kind::Slash
-            | Kind::Percent
-            | Kind::Ampersand
-            | Kind::Bar
-            | Kind::Caret
-            | Kind::ShiftLeft
-            | Kind::ShiftRight
-    )
-}
-
-/// Whether a sign wants a value behind it.
-fn wants_value(kind: Kind) -> bool {
-    is_arithmetic(kind)
-        || matches!(
-            kind,
-            Kind::Assign
-                | Kind::Equal
-                | Kind::Unequal
-                | Kind::Less
-                | Kind::Greater
-                | Kind::AtMost
-                | Kind::AtLeast
-                | Kind::AndAnd
-                | Kind::OrOr
-                | Kind::Bang
-                | Kind::BangBang
-                | Kind::Query
-                | Kind::QueryQuery
-        )
-}
-
-/// The kind of the token directly before the one at `at`.
-fn kind_in_front(tokens: &[Token<'_>], at: usize) -> Kind {
-    match at.checked_sub(1) {
-        Some(place) => kind_at(tokens, place),
-        None => Kind::End,
-    }
-}
-
-/// Whether a token stands where an operand ends.
-fn ends_operand(kind: Kind) -> bool {
-    closes(kind)
-        || matches!(
-            kind,
-            Kind::Semicolon | Kind::Arrow | Kind::DoubleColon | Kind::Comma
-        )
-}
-
-/// Whether a sign compares two values.
-fn compares(kind: Kind) -> bool {
-    matches!(
-        kind,
-        Kind::Less | Kind::Greater | Kind::AtMost | Kind::AtLeast | Kind::Equal | Kind::Unequal
-    )
-}
-
 /// Whether a sign of arithmetic stands behind another one, and cannot be one of a single value.
 fn is_second_sign(before: Kind, kind: Kind) -> bool {
     let is_single = matches!(kind, Kind::Minus | Kind::Plus | Kind::Ampersand);
     let is_power = same_kind(before, Kind::Star) && matches!(kind, Kind::Star | Kind::Slash);
     let is_third = same_kind(before, Kind::Equal) && same_kind(kind, Kind::Greater);
-    let is_compared = joins(before) && (joins(kind) || compares(kind)) && !is_third;
-    is_compared || (is_arithmetic(before) && is_arithmetic(kind) && !is_single && !is_power)
-}
-
-/// Whether a sign of two characters stands between two values.
-fn joins(kind: Kind) -> bool {
-    matches!(
-        kind,
-        Kind::Equal | Kind::Unequal | Kind::AtMost | Kind::AtLeast | Kind::AndAnd | Kind::OrOr
-    )
+    let is_compared = is_among(before, &JOINING)
+        && (is_among(kind, &JOINING) || is_among(kind, &COMPARISONS))
+        && !is_third;
+    is_compared
+        || (is_among(before, &ARITHMETIC) && is_among(kind, &ARITHMETIC) && !is_single && !is_power)
 }
 
 /// Whether a value is computed of the one that a process gives where it is begun.
 fn is_of_run(tokens: &[Token<'_>], at: usize, kind: Kind) -> bool {
-    let is_sign = (is_arithmetic(kind) && !same_kind(kind, Kind::Bar)) || compares(kind);
+    let is_sign = (is_among(kind, &ARITHMETIC) && !same_kind(kind, Kind::Bar))
+        || is_among(kind, &COMPARISONS);
     is_sign && is_before(tokens, at, 1, Kind::CloseParen) && is_in_statement(tokens, at, Kind::Run)
 }
 
@@ -221,13 +168,15 @@ fn by_words(tokens: &[Token<'_>], at: usize, kind: Kind) -> Neighbours {
         return Neighbours::Process;
     }
     let is_same = same_kind(kind, Kind::Arrow) && is_before(tokens, at, 1, Kind::Less);
-    if !is_same && wants_value(kind_in_front(tokens, at)) && ends_operand(kind) {
+    if !is_same && is_among(kind_before(tokens, at, 1), &WANTING) && is_among(kind, &OPERAND_ENDS) {
         return Neighbours::Operand;
     }
-    if is_second_sign(kind_in_front(tokens, at), kind) {
+    if is_second_sign(kind_before(tokens, at, 1), kind) {
         return Neighbours::Operand;
     }
-    if compares(kind) && matches!(kind_in_front(tokens, at), Kind::AndAnd | Kind::OrOr) {
+    if is_among(kind, &COMPARISONS)
+        && matches!(kind_before(tokens, at, 1), Kind::AndAnd | Kind::OrOr)
+    {
         return Neighbours::Operand;
     }
     if is_of_run(tokens, at, kind) {
@@ -250,7 +199,8 @@ pub fn neighbours_of(tokens: &[Token<'_>], at: usize) -> Neighbours {
     if same_kind(kind, Kind::Colon) && is_before(tokens, at, 1, Kind::Mtype) {
         return Neighbours::Subtype;
     }
-    let is_joined = same_kind(kind, Kind::Assign) && is_arithmetic(kind_in_front(tokens, at));
+    let is_joined = same_kind(kind, Kind::Assign)
+        && is_among(kind_before(tokens, at, 1), &ARITHMETIC);
     if is_joined || (same_kind(kind, Kind::Plus) && is_before(tokens, at, 1, Kind::Assign)) {
         return Neighbours::Assignment;
     }
@@ -258,4 +208,17 @@ pub fn neighbours_of(tokens: &[Token<'_>], at: usize) -> Neighbours {
         return Neighbours::Other;
     }
     by_words(tokens, at, kind)
+}
+
+/// Whether what one of these kinds opens is open in front of a token, where the others close it.
+pub fn is_open(tokens: &[Token<'_>], at: usize, openers: &[Kind], closers: &[Kind]) -> bool {
+    let mut open = 0usize;
+    for token in between(tokens, 0, at) {
+        if is_among(token.kind(), openers) {
+            open = open.saturating_add(1);
+        } else if is_among(token.kind(), closers) {
+            open = open.saturating_sub(1);
+        }
+    }
+    open > 0
 }

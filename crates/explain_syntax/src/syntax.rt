@@ -1,35 +1,39 @@
 //! Where no rule reads the tokens, and what was wanted there.
 
+ghost use Rattle.std.specs.Prelude.{◌≡◌, length, true, Some, OnOk, IfSome};
+ghost use Rattle.explain_syntax.specs.Wanted as sorts;
+
 use crate::called::{definition_of, is_call, shown_at, value_at};
 use crate::declared::{inline_at, names_beside};
 use crate::elements::in_brackets;
-use crate::forms::{form_at, is_behind_head, kind_before, kind_behind};
+use crate::forms::{form_at, is_behind_head};
+use crate::kinds::{OUTSIDE_SIGNS, STATEMENTS, UNITS};
 use crate::layout::unclosed_by_layout;
 use crate::meant::{meant_first, near_unit};
 use crate::stopped::{
-    Neighbours, begin_of, is_before, name_at, name_before, neighbours_of, opener_before,
+    Neighbours, begin_of, is_before, kind_before, kind_behind, name_at, name_before, neighbours_of,
+    opener_before,
 };
 use crate::told::{found_at, told};
 use crate::trial::stop;
 use crate::tried::wanted_by_trial;
 use crate::typed::is_select_range;
 use crate::unclosed::{Brackets, brackets_of};
-use crate::within::{
-    arrow_between, begins_unit, form_within, is_declared_word, is_left_open, is_named_there,
-    is_outside_sign, is_statement,
-};
+use crate::within::{arrow_between, form_within, is_declared_word, is_left_open, is_named_there};
 use crate::words::{
     called_variable, foreign_beside, foreign_call, is_record, is_typed, near_at, near_beside,
     no_word, number_beside, proctype_beside, type_before,
 };
 use explain_cause::cause::{Expected, Finding, Named};
 use explain_cause::foreign::Foreign;
-use explain_cause::place::{end_of, is_at, kind_at, untold};
+use explain_cause::place::{end_of, is_among, is_at, kind_at, untold};
 use pml_token::token::{Kind, Token, same_kind};
 use std::alloc::{AllocError, Global};
 
 /// What a list in braces or brackets is meant for.
-fn list_at<'t>(tokens: &[Token<'_>], at: usize) -> Expected<'t> {
+fn list_at<'t>(tokens: &[Token<'_>], at: usize) -> Expected<'t>
+    ensures { sorts.is_list result ≡ true }
+{
     if is_at(tokens, at.saturating_add(3), Kind::Of) {
         return Expected::Form(if is_at(tokens, at, Kind::OpenBracket) {
             Foreign::ChannelAssignment
@@ -66,36 +70,25 @@ fn by_neighbours<'t>(text: &'t [u8], tokens: &[Token<'_>], at: usize) -> Option<
     }
 }
 
-/// What is told by a form of another language, or by the name of a proctype.
-fn by_forms<'t>(text: &'t [u8], tokens: &[Token<'_>], at: usize) -> Option<Expected<'t>> {
-    match form_at(tokens, at) {
-        Some(form) => Some(Expected::Form(form)),
-        None => proctype_beside(text, tokens, at),
-    }
-}
-
 /// What is told by a word or a number of another language, or else by a form.
 fn by_words<'t>(text: &'t [u8], tokens: &[Token<'_>], at: usize) -> Option<Expected<'t>> {
     if is_select_range(tokens, at) {
         return Some(Expected::Form(Foreign::SelectRange));
     }
     let word = number_beside(text, tokens, at).or(foreign_beside(text, tokens, at));
-    match word {
-        Some(wanted) => Some(wanted),
-        None => by_forms(text, tokens, at),
+    if word.is_some() {
+        return word;
     }
-}
-
-/// What is told by the token and those in front of it, where it is no word that is only mistyped.
-fn by_tokens<'t>(text: &'t [u8], tokens: &[Token<'_>], at: usize) -> Option<Expected<'t>> {
-    match by_neighbours(text, tokens, at) {
-        Some(wanted) => Some(wanted),
-        None => by_words(text, tokens, at),
+    match form_at(tokens, at) {
+        Some(form) => Some(Expected::Form(form)),
+        None => proctype_beside(text, tokens, at),
     }
 }
 
 /// Of a call of what is not declared, in front of the `(` at `at`.
-fn called_name<'t>(tokens: &[Token<'_>], at: usize, name: Named<'t>) -> Expected<'t> {
+fn called_name<'t>(tokens: &[Token<'_>], at: usize, name: Named<'t>) -> Expected<'t>
+    ensures { sorts.is_call result ≡ true }
+{
     match kind_before(tokens, at, 2) {
         Kind::Assign | Kind::OpenParen | Kind::Comma | Kind::Equal | Kind::Plus | Kind::Minus => {
             Expected::ForeignWord(Foreign::Function, name)
@@ -110,7 +103,9 @@ fn by_call<'t>(
     originals: &[Token<'_>],
     tokens: &[Token<'_>],
     at: usize,
-) -> Option<Expected<'t>> {
+) -> Option<Expected<'t>>
+    ensures { IfSome result (λ wish. sorts.is_call wish ≡ true) }
+{
     if !is_call(tokens, at) {
         return None;
     }
@@ -127,7 +122,9 @@ fn end_within<'t>(
     tokens: &[Token<'_>],
     opener: usize,
     at: usize,
-) -> Option<Expected<'t>> {
+) -> Option<Expected<'t>>
+    ensures { IfSome result (λ wish. sorts.is_foreign wish ≡ true) }
+{
     let name = name_at(text, tokens, at);
     if name.name != b"end".as_slice() {
         return None;
@@ -153,20 +150,10 @@ fn unfit_within<'t>(
         return Some(in_brackets(tokens, opener));
     }
     if is_paren && same_kind(kind, Kind::Assign) {
-        return before_arrow(text, tokens, opener, at);
+        let arrow = name_at(text, tokens, arrow_between(tokens, opener, at)?);
+        return Some(Expected::CloserBeforeArrow(name_at(text, tokens, opener), arrow));
     }
     end_within(text, tokens, opener, at)
-}
-
-/// Whether a parenthesis is to be closed in front of the `->` that stands in it.
-fn before_arrow<'t>(
-    text: &'t [u8],
-    tokens: &[Token<'_>],
-    opener: usize,
-    at: usize,
-) -> Option<Expected<'t>> {
-    let arrow = arrow_between(tokens, opener, at)?;
-    Some(Expected::CloserBeforeArrow(name_at(text, tokens, opener), name_at(text, tokens, arrow)))
 }
 
 /// What is told by what is open at the token.
@@ -189,16 +176,6 @@ fn within<'t>(
     }
 }
 
-/// The same of a token that something may be open at.
-fn by_opener<'t>(
-    text: &'t [u8],
-    tokens: &[Token<'_>],
-    opener: Option<usize>,
-    at: usize,
-) -> Option<Expected<'t>> {
-    within(text, tokens, opener?, at)
-}
-
 /// What is told of a `=` behind two names, of which the first is no type.
 fn by_type<'t>(
     alloc: Global,
@@ -219,14 +196,16 @@ fn by_type<'t>(
 }
 
 /// What a token that stands in no braces is meant for.
-fn outside_form(tokens: &[Token<'_>], at: usize) -> Foreign {
+fn outside_form(tokens: &[Token<'_>], at: usize) -> Foreign
+    ensures { sorts.is_outside result ≡ true }
+{
     if is_behind_head(tokens, at) || is_before(tokens, at, 1, Kind::Init) {
         Foreign::BodyBrace
-    } else if begins_unit(kind_behind(tokens, at))
+    } else if is_among(kind_behind(tokens, at), &UNITS)
         && matches!(kind_at(tokens, at), Kind::Atomic | Kind::DStep)
     {
         Foreign::AtomicUnit
-    } else if is_statement(kind_at(tokens, at)) {
+    } else if is_among(kind_at(tokens, at), &STATEMENTS) {
         Foreign::Outside
     } else {
         Foreign::OutsideSign
@@ -285,7 +264,8 @@ fn wanted_by_tokens<'t>(
         return Ok(wanted);
     }
     let value = inline_at(text, originals, tokens, at).or(value_at(text, originals, tokens, at));
-    match value.or(by_tokens(text, tokens, at)) {
+    let told = value.or(by_neighbours(text, tokens, at));
+    match told.or(by_words(text, tokens, at)) {
         Some(wanted) => Ok(wanted),
         None => wanted_by_name(alloc, text, originals, tokens, at),
     }
@@ -294,12 +274,12 @@ fn wanted_by_tokens<'t>(
 /// Whether a statement, or a sign that begins no declaration, stands in no braces at a token.
 fn is_outside(tokens: &[Token<'_>], opener: Option<usize>, at: usize) -> bool {
     let kind = kind_at(tokens, at);
-    let is_first = is_outside_sign(kind) && begin_of(tokens, at) == at;
+    let is_first = is_among(kind, &OUTSIDE_SIGNS) && begin_of(tokens, at) == at;
     let is_declared = is_typed(tokens, at)
         || is_named_there(tokens, at)
         || is_before(tokens, at, 2, Kind::Typedef)
         || is_before(tokens, at, 2, Kind::Unsigned);
-    opener.is_none() && (is_statement(kind) || is_first) && !is_declared
+    opener.is_none() && (is_among(kind, &STATEMENTS) || is_first) && !is_declared
 }
 
 fn wanted_of<'t>(
@@ -313,8 +293,10 @@ fn wanted_of<'t>(
     if let Some(wanted) = meant_first(alloc, text, tokens, opener, at)? {
         return Ok(wanted);
     }
-    if let Some(wanted) = by_opener(text, tokens, opener, at) {
-        return Ok(wanted);
+    if let Some(open) = opener {
+        if let Some(wanted) = within(text, tokens, open, at) {
+            return Ok(wanted);
+        }
     }
     if let Some(wanted) = names_beside(text, tokens, opener, at) {
         return Ok(wanted);
@@ -331,7 +313,9 @@ fn at_end<'t>(
     text: &'t [u8],
     tokens: &[Token<'_>],
     opener: usize,
-) -> Result<Expected<'t>, AllocError> {
+) -> Result<Expected<'t>, AllocError>
+    ensures { OnOk result (λ wish. sorts.is_of_end wish ≡ true) }
+{
     match unclosed_by_layout(alloc, text, tokens, Some(opener), tokens.len())? {
         Some(suspect) => Ok(Expected::EndByLayout(name_at(text, tokens, suspect))),
         None => Ok(Expected::EndOf(name_at(text, tokens, opener))),
@@ -360,7 +344,9 @@ fn of_stop<'t>(
     originals: &[Token<'_>],
     tokens: &[Token<'_>],
     at: usize,
-) -> Result<Finding<'t>, AllocError> {
+) -> Result<Finding<'t>, AllocError>
+    ensures { OnOk result (λ found. sorts.is_syntax found.cause ≡ true) }
+{
     let token = shown_at(text, originals, tokens, at);
     match wanted_at(alloc, text, originals, tokens, at) {
         Ok(wanted) => Ok(told(text, token, wanted)),
@@ -369,7 +355,10 @@ fn of_stop<'t>(
 }
 
 /// A text without a token.
-fn empty(text: &[u8]) -> Finding<'_> {
+fn empty(text: &[u8]) -> Finding<'_>
+    ensures offset { IfSome result.place (λ place. place.offset ≡ length text.now) }
+    ensures cause { sorts.is_syntax result.cause ≡ true }
+{
     found_at(end_of(text), &text[..0], Expected::Untold)
 }
 
@@ -380,7 +369,9 @@ pub fn of_syntax<'t>(
     originals: &[Token<'_>],
     tokens: &[Token<'_>],
     line: u32,
-) -> Result<Finding<'t>, AllocError> {
+) -> Result<Finding<'t>, AllocError>
+    ensures { OnOk result (λ found. sorts.is_syntax found.cause ≡ true) }
+{
     match stop(alloc, tokens, line) {
         Ok(Some(at)) => {
             if at < tokens.len() {

@@ -1,9 +1,10 @@
 //! How far tokens are read, as they stand or with a change.
 
-ghost use Rattle.std.specs.Prelude.{◌≡◌, IfSome, Some};
-ghost use Rattle.explain_syntax.specs.Lines.{first_of_line};
+ghost use Rattle.std.specs.Prelude.{◌≡◌, IfSome, Some, true};
+ghost use Rattle.explain_cause.specs.Places.{index_at as first_there};
+ghost use Rattle.explain_syntax.specs.Beside.{passes};
 
-use explain_cause::place::{between, from};
+use explain_cause::place::{between, from, index_at};
 use pml_syntax::{SyntaxError, parse};
 use pml_token::token::{Kind, Token};
 use std::alloc::{AllocError, Global};
@@ -51,20 +52,6 @@ fn add_changed<'t>(
     }
 }
 
-/// Adds a token, or what stands in its place.
-fn add_either<'t>(
-    token: &Token<'t>,
-    is_changed: bool,
-    change: Repair,
-    list: &mut Vec<Token<'t>>,
-) -> Result<(), AllocError> {
-    if is_changed {
-        add_changed(token, change, list)
-    } else {
-        add(token.kind(), token.text(), list)
-    }
-}
-
 /// The tokens with a change of the one at `at`.
 fn changed<'t>(
     alloc: Global,
@@ -74,7 +61,11 @@ fn changed<'t>(
 ) -> Result<Vec<Token<'t>>, AllocError> {
     let mut list = Vec::with_capacity(alloc, tokens.len().saturating_add(1))?;
     for (i, token) in tokens.iter().enumerate() {
-        add_either(token, i == at, change, &mut list)?;
+        if i == at {
+            add_changed(token, change, &mut list)?;
+        } else {
+            add(token.kind(), token.text(), &mut list)?;
+        }
     }
     Ok(list)
 }
@@ -88,28 +79,13 @@ fn stop_of<'a>(alloc: Global, numbered: &'a [Token<'a>]) -> Result<Option<usize>
     }
 }
 
-/// The place of the first token with this line.
-fn first_of_line(tokens: &[Token<'_>], line: u32) -> Option<usize>
-    ensures { result ≡ first_of_line line tokens.now }
-{
-    let mut passed = 0usize;
-    let mut rest = tokens;
-    while !rest.is_empty() {
-        if rest[0].line() == line {
-            return Some(passed);
-        }
-        passed += 1;
-        rest = &rest[1..];
-    }
-    None
-}
-
 /// The place of the only token with this line; none where no token has it, or more than one.
 fn only_of_line(tokens: &[Token<'_>], line: u32) -> Option<usize>
-    ensures { IfSome result (λ at. first_of_line line tokens.now ≡ Some at) }
+    ensures { IfSome result (λ at. first_there line tokens.now ≡ Some at) }
 {
-    let at = first_of_line(tokens, line)?;
-    match first_of_line(from(tokens, at.saturating_add(1)), line) {
+    let offset = line as usize;
+    let at = index_at(tokens, offset)?;
+    match index_at(from(tokens, at.saturating_add(1)), offset) {
         Some(_) => None,
         None => Some(at),
     }
@@ -126,16 +102,10 @@ pub fn stop(alloc: Global, tokens: &[Token<'_>], line: u32) -> Result<Option<usi
     }
 }
 
-/// The first token that has to be read behind a change, so that it was of use.
-fn aim(at: usize, change: Repair) -> usize {
-    match change {
-        Repair::Insert(_, _) => at.saturating_add(1),
-        _ => at,
-    }
-}
-
 /// Whether the tokens are read past a place, where this is the one that no rule reads.
-fn is_behind(stop: Option<usize>, aim: usize) -> bool {
+fn is_behind(stop: Option<usize>, aim: usize) -> bool
+    ensures { result ≡ passes stop aim }
+{
     match stop {
         None => true,
         Some(place) => place > aim,
@@ -151,7 +121,11 @@ pub fn reads_on(
 ) -> Result<bool, AllocError> {
     let list = changed(alloc, tokens, at, change)?;
     let place = stop_of(alloc, &list)?;
-    Ok(is_behind(place, aim(at, change)))
+    let aim = match change {
+        Repair::Insert(_, _) => at.saturating_add(1),
+        _ => at,
+    };
+    Ok(is_behind(place, aim))
 }
 
 /// Whether a token of this kind may stand in front of the one at `at`: it is read there, whatever may be behind it.

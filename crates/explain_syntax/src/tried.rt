@@ -1,17 +1,20 @@
 //! What is wanted where no rule reads a token, told by reading the tokens once more with a change of one of them.
 
+ghost use Rattle.std.specs.Prelude.{◌≡◌, true, OnOk};
+ghost use Rattle.explain_syntax.specs.Wanted as sorts;
+
 use crate::classes::classes_at;
-use crate::declared::ends_statement;
 use crate::elements::is_declaration;
-use crate::forms::kind_behind;
+use crate::kinds::{MESSAGES, OF_CONDITIONS, STATEMENT_ENDS, STATEMENTS};
 use crate::stopped::{
-    begin_of, begins_line, is_before, is_in_statement, name_at, name_before, opener_before,
+    are_before, begin_of, begins_line, has_in_statement, is_before, kind_behind, name_at,
+    name_before, opener_before,
 };
 use crate::trial::{Repair, may_stand, reads_on};
-use crate::within::{has_arrow, is_closed, is_named_there, is_statement};
+use crate::within::{arrow_between, is_closed, is_named_there};
 use explain_cause::cause::{Expected, Named};
 use explain_cause::foreign::Foreign;
-use explain_cause::place::{between, from, is_at, kind_at};
+use explain_cause::place::{from, is_among, is_at, kind_at};
 use pml_token::token::{Kind, Token, same_kind};
 use std::alloc::{AllocError, Global};
 
@@ -45,32 +48,19 @@ fn wants_option(alloc: Global, tokens: &[Token<'_>], at: usize) -> Result<bool, 
     Ok(is_opener(tokens, opener))
 }
 
-fn is_word(bytes: &[u8]) -> bool {
-    match bytes {
-        [first, ..] => (b'a' <= *first && *first <= b'z') || (b'A' <= *first && *first <= b'Z'),
-        [] => false,
-    }
-}
-
+/// Whether the token at a place begins with a letter.
 fn is_word_at(tokens: &[Token<'_>], at: usize) -> bool {
     match tokens.get(at) {
-        Some(token) => is_word(token.text()),
+        Some(token) => matches!(token.text(), [b'a'..=b'z' | b'A'..=b'Z', ..]),
         None => false,
     }
-}
-
-fn is_sign(kind: Kind) -> bool {
-    matches!(
-        kind,
-        Kind::Semicolon | Kind::Comma | Kind::Arrow | Kind::Dot
-    )
 }
 
 /// Whether an option stands behind a token: an `else`, or what has a `->`.
 fn begins_option(tokens: &[Token<'_>], at: usize) -> bool {
     let behind = at.saturating_add(1);
     same_kind(kind_behind(tokens, at), Kind::Else)
-        || has_arrow(tokens, behind, end_of_condition(tokens, behind))
+        || arrow_between(tokens, behind, end_of_condition(tokens, behind)).is_some()
 }
 
 /// What is told by a `,` or a `:` that another sign may stand in place of.
@@ -93,7 +83,11 @@ fn by_sign(alloc: Global, tokens: &[Token<'_>], at: usize) -> Result<Trial, Allo
 
 /// What is told by leaving a sign out, or by a `,` before a token.
 fn by_less(alloc: Global, tokens: &[Token<'_>], at: usize) -> Result<Trial, AllocError> {
-    if is_sign(kind_at(tokens, at)) && reads_on(alloc, tokens, at, Repair::Remove)? {
+    let is_sign = matches!(
+        kind_at(tokens, at),
+        Kind::Semicolon | Kind::Comma | Kind::Arrow | Kind::Dot
+    );
+    if is_sign && reads_on(alloc, tokens, at, Repair::Remove)? {
         return Ok(Trial::Nothing);
     }
     if reads_on(alloc, tokens, at, Repair::Insert(Kind::Comma, b","))? {
@@ -125,25 +119,13 @@ fn by_change(alloc: Global, tokens: &[Token<'_>], at: usize) -> Result<Trial, Al
     }
 }
 
-/// Whether a label stands in front of a token.
-fn is_labelled(tokens: &[Token<'_>], at: usize) -> bool {
-    is_before(tokens, at, 1, Kind::Colon) && is_before(tokens, at, 2, Kind::Name)
-}
-
-/// Whether a message is sent or received in the statement of a token.
-fn is_in_message(tokens: &[Token<'_>], at: usize) -> bool {
-    is_in_statement(tokens, at, Kind::Bang)
-        || is_in_statement(tokens, at, Kind::BangBang)
-        || is_in_statement(tokens, at, Kind::Query)
-        || is_in_statement(tokens, at, Kind::QueryQuery)
-}
-
 /// Whether a token seems to be a further field of a message: a number, or the last word of its statement.
 fn is_field(tokens: &[Token<'_>], at: usize) -> bool {
     match kind_at(tokens, at) {
         Kind::Number => true,
         Kind::Name | Kind::True | Kind::False => {
-            ends_statement(kind_behind(tokens, at)) && is_in_message(tokens, at)
+            is_among(kind_behind(tokens, at), &STATEMENT_ENDS)
+                && has_in_statement(tokens, at, &MESSAGES)
         }
         _ => false,
     }
@@ -169,7 +151,7 @@ fn tried_otherwise(alloc: Global, tokens: &[Token<'_>], at: usize) -> Result<Tri
         return Ok(Trial::Semicolon);
     }
     let skip = Repair::Insert(Kind::Skip, b"skip");
-    if is_labelled(tokens, at) && reads_on(alloc, tokens, at, skip)? {
+    if are_before(tokens, at, Kind::Name, Kind::Colon) && reads_on(alloc, tokens, at, skip)? {
         return Ok(Trial::Statement);
     }
     by_change(alloc, tokens, at)
@@ -211,7 +193,9 @@ fn at_line<'t>(
     tokens: &[Token<'_>],
     opener: Option<usize>,
     at: usize,
-) -> Expected<'t> {
+) -> Expected<'t>
+    ensures { sorts.is_between result ≡ true }
+{
     let last = name_before(text, tokens, at, 1);
     match opener {
         Some(open) if is_opener(tokens, opener) => {
@@ -220,7 +204,7 @@ fn at_line<'t>(
                 Expected::Closer(opening)
             } else if !is_closed(tokens, open) {
                 Expected::CloserAndSemicolon(opening)
-            } else if has_arrow(tokens, at, end_of_condition(tokens, at)) {
+            } else if arrow_between(tokens, at, end_of_condition(tokens, at)).is_some() {
                 Expected::SemicolonOrOption(last)
             } else {
                 Expected::SemicolonAtLineEnd(last)
@@ -230,37 +214,16 @@ fn at_line<'t>(
     }
 }
 
-/// Whether a sign stands in a condition.
-fn is_of_condition(kind: Kind) -> bool {
-    matches!(
-        kind,
-        Kind::Equal
-            | Kind::Unequal
-            | Kind::Less
-            | Kind::Greater
-            | Kind::AtMost
-            | Kind::AtLeast
-            | Kind::AndAnd
-            | Kind::OrOr
-    )
-}
-
 /// Whether a condition begins the option that a token stands in, and ends before the token.
 pub fn is_behind_condition(tokens: &[Token<'_>], at: usize) -> bool {
-    let begin = begin_of(tokens, at);
-    if !is_before(tokens, begin, 1, Kind::DoubleColon) {
-        return false;
-    }
-    for token in between(tokens, begin, at) {
-        if is_of_condition(token.kind()) {
-            return true;
-        }
-    }
-    false
+    is_before(tokens, begin_of(tokens, at), 1, Kind::DoubleColon)
+        && has_in_statement(tokens, at, &OF_CONDITIONS)
 }
 
 /// What is wanted in front of a token on the line of the one before it.
-fn on_line<'t>(tokens: &[Token<'_>], at: usize) -> Expected<'t> {
+fn on_line<'t>(tokens: &[Token<'_>], at: usize) -> Expected<'t>
+    ensures { sorts.is_between result ≡ true }
+{
     if is_behind_condition(tokens, at) {
         Expected::Form(Foreign::Then)
     } else {
@@ -275,7 +238,9 @@ fn semicolon<'t>(
     tokens: &[Token<'_>],
     at: usize,
     shown: Named<'t>,
-) -> Result<Expected<'t>, AllocError> {
+) -> Result<Expected<'t>, AllocError>
+    ensures { OnOk result (λ wish. sorts.is_between wish ≡ true) }
+{
     let is_first = at > 0 && begins_line(text, shown.offset);
     if !is_first && !is_last_word(tokens, at) {
         return Ok(on_line(tokens, at));
@@ -302,9 +267,8 @@ fn by_trial<'t>(text: &'t [u8], tokens: &[Token<'_>], at: usize, trial: Trial) -
         Trial::Semicolon => Expected::Semicolon,
         Trial::Statement => Expected::Statement(name_before(text, tokens, at, 2).name),
         Trial::Run => Expected::NoRun,
-        Trial::Name if is_statement(kind_at(tokens, at)) && !is_declared_at(tokens, at) => {
-            Expected::Form(Foreign::StatementWord)
-        }
+        Trial::Name if is_among(kind_at(tokens, at), &STATEMENTS) && !is_declared_at(tokens, at) =>
+            { Expected::Form(Foreign::StatementWord) }
         Trial::Name => Expected::Name,
         Trial::Nothing => Expected::Nothing,
         Trial::Comma => Expected::Comma,
@@ -315,7 +279,9 @@ fn by_trial<'t>(text: &'t [u8], tokens: &[Token<'_>], at: usize, trial: Trial) -
 }
 
 /// What may stand there, by class.
-fn one_of<'t>(alloc: Global, tokens: &[Token<'_>], at: usize) -> Result<Expected<'t>, AllocError> {
+fn one_of<'t>(alloc: Global, tokens: &[Token<'_>], at: usize) -> Result<Expected<'t>, AllocError>
+    ensures { OnOk result (λ wish. sorts.is_one_of wish ≡ true) }
+{
     let classes = classes_at(alloc, tokens, at)?;
     if classes.first.is_none() {
         Ok(Expected::Untold)

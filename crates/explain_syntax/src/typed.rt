@@ -1,14 +1,20 @@
 //! Forms of other languages, told by the word, the number or the string that no rule reads and its neighbours.
 
+ghost use Rattle.std.specs.Prelude.{◌≡◌, true, IfSome};
+ghost use Rattle.explain_syntax.specs.Wanted as sorts;
+ghost use Rattle.explain_syntax.specs.Beside as beside;
+
 use crate::elements::is_declaration;
-use crate::forms::{are_before, kind_before, kind_behind};
-use crate::stopped::{begin_of, is_before, is_in_statement, is_type};
+use crate::kinds::{BEFORE_TEXTS, is_type};
+use crate::stopped::{are_before, begin_of, is_before, is_in_statement, kind_before, kind_behind};
 use explain_cause::foreign::Foreign;
-use explain_cause::place::{is_at, kind_at};
+use explain_cause::place::{is_among, is_at, kind_at};
 use pml_token::token::{Kind, Token, same_kind};
 
 /// What a name is meant for.
-fn at_name(tokens: &[Token<'_>], at: usize, before: Kind) -> Option<Foreign> {
+fn at_name(tokens: &[Token<'_>], at: usize, before: Kind) -> Option<Foreign>
+    ensures { IfSome result (λ form. sorts.is_of_word form ≡ true) }
+{
     let behind = kind_behind(tokens, at);
     match before {
         Kind::For => Some(Foreign::LoopParens),
@@ -33,7 +39,9 @@ fn at_name(tokens: &[Token<'_>], at: usize, before: Kind) -> Option<Foreign> {
 }
 
 /// What a number is meant for.
-fn at_number(tokens: &[Token<'_>], at: usize, before: Kind) -> Option<Foreign> {
+fn at_number(tokens: &[Token<'_>], at: usize, before: Kind) -> Option<Foreign>
+    ensures { IfSome result (λ form. sorts.is_of_word form ≡ true) }
+{
     match before {
         Kind::Active => Some(Foreign::ActiveCount),
         Kind::Proctype | Kind::Typedef => Some(Foreign::NameBegins),
@@ -49,22 +57,10 @@ fn at_number(tokens: &[Token<'_>], at: usize, before: Kind) -> Option<Foreign> {
     }
 }
 
-/// Whether a value is wanted behind a token of this kind.
-fn wants_value(before: Kind) -> bool {
-    matches!(
-        before,
-        Kind::Assign
-            | Kind::Equal
-            | Kind::Unequal
-            | Kind::Bang
-            | Kind::BangBang
-            | Kind::OpenParen
-            | Kind::Comma
-    )
-}
-
 /// What a string is meant for.
-fn at_text(tokens: &[Token<'_>], at: usize, before: Kind) -> Option<Foreign> {
+fn at_text(tokens: &[Token<'_>], at: usize, before: Kind) -> Option<Foreign>
+    ensures { IfSome result (λ form. sorts.is_of_word form ≡ true) }
+{
     if is_before(tokens, at, 3, Kind::Mtype) {
         return Some(Foreign::QuotedName);
     }
@@ -78,7 +74,7 @@ fn at_text(tokens: &[Token<'_>], at: usize, before: Kind) -> Option<Foreign> {
             Some(Foreign::PrintTexts)
         }
         _ => {
-            if wants_value(before) {
+            if is_among(before, &BEFORE_TEXTS) {
                 Some(Foreign::Text)
             } else {
                 None
@@ -87,24 +83,21 @@ fn at_text(tokens: &[Token<'_>], at: usize, before: Kind) -> Option<Foreign> {
     }
 }
 
-/// What a type behind `=` is meant for.
-fn assigned_type(kind: Kind) -> Option<Foreign> {
-    match kind {
-        Kind::Chan => Some(Foreign::Channel),
-        Kind::Pid => Some(Foreign::Own),
-        _ => Some(Foreign::Cast),
-    }
-}
-
 /// What a type is meant for.
-fn at_type(tokens: &[Token<'_>], at: usize, before: Kind) -> Option<Foreign> {
+fn at_type(tokens: &[Token<'_>], at: usize, before: Kind) -> Option<Foreign>
+    ensures { IfSome result (λ form. sorts.is_of_word form ≡ true) }
+{
     match before {
         Kind::Of => Some(Foreign::ChannelTypes),
         Kind::Chan | Kind::CloseBracket => Some(Foreign::Channel),
         Kind::Typedef => Some(Foreign::Record),
         Kind::Proctype => Some(Foreign::ProctypeResult),
         Kind::Name if is_before(tokens, at, 2, Kind::Typedef) => Some(Foreign::Record),
-        Kind::Assign => assigned_type(kind_at(tokens, at)),
+        Kind::Assign => Some(match kind_at(tokens, at) {
+            Kind::Chan => Foreign::Channel,
+            Kind::Pid => Foreign::Own,
+            _ => Foreign::Cast,
+        }),
         Kind::Query | Kind::QueryQuery => Some(Foreign::ReceivedType),
         Kind::Colon if is_before(tokens, at, 2, Kind::Name) => Some(Foreign::LabelDeclaration),
         Kind::Comma if is_type(kind_at(tokens, begin_of(tokens, at))) => {
@@ -126,7 +119,9 @@ fn is_of_channel(tokens: &[Token<'_>], at: usize, before: Kind) -> bool {
 }
 
 /// What another word is meant for.
-fn at_keyword(tokens: &[Token<'_>], at: usize, kind: Kind) -> Option<Foreign> {
+fn at_keyword(tokens: &[Token<'_>], at: usize, kind: Kind) -> Option<Foreign>
+    ensures { IfSome result (λ form. sorts.is_of_word form ≡ true) }
+{
     let before = kind_before(tokens, at, 1);
     match kind {
         Kind::Init if same_kind(before, Kind::Active) => Some(Foreign::ActiveInit),
@@ -142,7 +137,9 @@ fn at_keyword(tokens: &[Token<'_>], at: usize, kind: Kind) -> Option<Foreign> {
 }
 
 /// Whether `unsigned` has no number of bits where a token stands.
-fn at_width(tokens: &[Token<'_>], at: usize) -> Option<Foreign> {
+fn at_width(tokens: &[Token<'_>], at: usize) -> Option<Foreign>
+    ensures { IfSome result (λ form. sorts.is_of_word form ≡ true) }
+{
     let named = are_before(tokens, at, Kind::Unsigned, Kind::Name);
     let typed = is_type(kind_at(tokens, at)) && is_before(tokens, at, 1, Kind::Unsigned);
     if named || typed {
@@ -153,7 +150,9 @@ fn at_width(tokens: &[Token<'_>], at: usize) -> Option<Foreign> {
 }
 
 /// What a word, a number or a string is meant for, where that is told by its own kind.
-fn by_kind(tokens: &[Token<'_>], at: usize, kind: Kind) -> Option<Foreign> {
+fn by_kind(tokens: &[Token<'_>], at: usize, kind: Kind) -> Option<Foreign>
+    ensures { IfSome result (λ form. sorts.is_of_word form ≡ true) }
+{
     let before = kind_before(tokens, at, 1);
     match kind {
         Kind::Name => at_name(tokens, at, before),
@@ -170,7 +169,9 @@ fn by_kind(tokens: &[Token<'_>], at: usize, kind: Kind) -> Option<Foreign> {
 }
 
 /// Whether a token stands behind `run` alone.
-fn at_run(tokens: &[Token<'_>], at: usize) -> Option<Foreign> {
+fn at_run(tokens: &[Token<'_>], at: usize) -> Option<Foreign>
+    ensures { IfSome result (λ form. sorts.is_of_word form ≡ true) }
+{
     if is_before(tokens, at, 1, Kind::Run) && !is_at(tokens, at, Kind::Name) {
         Some(Foreign::RunName)
     } else {
@@ -179,7 +180,9 @@ fn at_run(tokens: &[Token<'_>], at: usize) -> Option<Foreign> {
 }
 
 /// What a word, a number or a string is meant for.
-pub fn form_of_word(tokens: &[Token<'_>], at: usize, kind: Kind) -> Option<Foreign> {
+pub fn form_of_word(tokens: &[Token<'_>], at: usize, kind: Kind) -> Option<Foreign>
+    ensures { IfSome result (λ form. sorts.is_of_word form ≡ true) }
+{
     if let Some(form) = by_kind(tokens, at, kind) {
         return Some(form);
     }
@@ -190,7 +193,9 @@ pub fn form_of_word(tokens: &[Token<'_>], at: usize, kind: Kind) -> Option<Forei
 }
 
 /// Whether a name stands where the `:` of a `select` is wanted.
-pub fn is_select_range(tokens: &[Token<'_>], at: usize) -> bool {
+pub fn is_select_range(tokens: &[Token<'_>], at: usize) -> bool
+    ensures { result ≡ beside.is_select_range tokens.now at }
+{
     is_at(tokens, at, Kind::Name)
         && is_before(tokens, at, 3, Kind::Select)
         && are_before(tokens, at, Kind::OpenParen, Kind::Name)

@@ -57,21 +57,15 @@ fn closed_by(tokens: &[Token<'_>], open: &[usize], at: usize) -> Brackets {
     }
 }
 
-/// Of the last token, where this is open in front of its end.
-fn open_at_end(opener: Option<usize>) -> Brackets {
-    match opener {
-        Some(opener) => Brackets::Open(opener),
-        None => Brackets::Right,
-    }
-}
-
 /// What is open at the end of the text, where its last token is the one at `at`.
 fn at_end(alloc: Global, tokens: &[Token<'_>], at: usize) -> Result<Brackets, AllocError> {
     if at.saturating_add(1) < tokens.len() {
         return Ok(Brackets::Right);
     }
-    let opener = opener_before(alloc, tokens, tokens.len())?;
-    Ok(open_at_end(opener))
+    match opener_before(alloc, tokens, tokens.len())? {
+        Some(opener) => Ok(Brackets::Open(opener)),
+        None => Ok(Brackets::Right),
+    }
 }
 
 /// What closes, where something else is open.

@@ -1,41 +1,16 @@
 //! What a token that no rule reads is meant for, by what is open there.
 
-use crate::declared::{asks_channel, behind_parameter, is_half_range};
-use crate::forms::{are_before, kind_before, kind_behind};
-use crate::stopped::{begin_of, is_before, is_type};
+ghost use Rattle.std.specs.Prelude.{◌≡◌, true, ◌≤◌, IfSome};
+ghost use Rattle.explain_syntax.specs.Wanted as sorts;
+ghost use Rattle.explain_syntax.specs.Beside as beside;
+
+use crate::declared::{behind_parameter, is_half_range};
+use crate::kinds::{CHANNEL_QUESTIONS, OPTION_ENDS, OPTIONS, PARTS_OF_PARENS, UNITS, is_type};
+use crate::stopped::{are_before, begin_of, is_before, is_open, kind_before, kind_behind};
 use explain_cause::brackets::{closing, fits};
 use explain_cause::foreign::Foreign;
-use explain_cause::place::{between, is_at, kind_at};
+use explain_cause::place::{between, is_among, is_at, kind_at};
 use pml_token::token::{Kind, Token, same_kind};
-
-/// Whether a token begins a statement that stands in no declaration.
-pub fn is_statement(kind: Kind) -> bool {
-    matches!(
-        kind,
-        Kind::Assign
-            | Kind::Assert
-            | Kind::Atomic
-            | Kind::Break
-            | Kind::DStep
-            | Kind::Do
-            | Kind::For
-            | Kind::Goto
-            | Kind::If
-            | Kind::Printf
-            | Kind::Printm
-            | Kind::Run
-            | Kind::Select
-            | Kind::Skip
-    )
-}
-
-/// Whether a token begins a unit of a model, which stands in no braces.
-pub fn begins_unit(kind: Kind) -> bool {
-    matches!(
-        kind,
-        Kind::Active | Kind::Proctype | Kind::Init | Kind::Typedef | Kind::Inline
-    )
-}
 
 /// Whether a token stands where a declaration has its name: behind a type, `proctype` or `typedef`.
 pub fn is_named_there(tokens: &[Token<'_>], at: usize) -> bool {
@@ -50,22 +25,6 @@ pub fn is_declared_word(tokens: &[Token<'_>], at: usize) -> bool {
             kind_behind(tokens, at),
             Kind::Semicolon | Kind::Comma | Kind::Assign | Kind::OpenBracket
         )
-}
-
-/// Whether a sign begins what is no declaration.
-pub fn is_outside_sign(kind: Kind) -> bool {
-    matches!(
-        kind,
-        Kind::Decrement
-            | Kind::Minus
-            | Kind::Percent
-            | Kind::Star
-            | Kind::Slash
-            | Kind::OpenParen
-            | Kind::Quoted
-            | Kind::Bang
-            | Kind::Less
-    )
 }
 
 /// Whether what the token at `opener` opens is closed, and by what closes it.
@@ -94,18 +53,15 @@ pub fn is_headless(tokens: &[Token<'_>], at: usize) -> bool {
 }
 
 /// The first `->` between two tokens.
-pub fn arrow_between(tokens: &[Token<'_>], opener: usize, at: usize) -> Option<usize> {
+pub fn arrow_between(tokens: &[Token<'_>], opener: usize, at: usize) -> Option<usize>
+    ensures { IfSome result (λ arrow. opener ≤ arrow) }
+{
     for (i, token) in between(tokens, opener, at).iter().enumerate() {
         if same_kind(token.kind(), Kind::Arrow) {
             return Some(opener.saturating_add(i));
         }
     }
     None
-}
-
-/// Whether a `->` stands between two tokens.
-pub fn has_arrow(tokens: &[Token<'_>], opener: usize, at: usize) -> bool {
-    arrow_between(tokens, opener, at).is_some()
 }
 
 /// Whether a token ends what stands in parentheses or in brackets.
@@ -121,28 +77,17 @@ fn ends_inside(tokens: &[Token<'_>], opener: usize, kind: Kind) -> bool {
 pub fn is_left_open(tokens: &[Token<'_>], opener: usize, kind: Kind) -> bool {
     let is_inside = is_at(tokens, opener, Kind::OpenParen)
         || is_at(tokens, opener, Kind::OpenBracket);
-    begins_unit(kind)
+    is_among(kind, &UNITS)
         || (is_inside && ends_inside(tokens, opener, kind))
         || (same_kind(kind, Kind::DoubleColon) && is_of_option(tokens, opener))
         || (same_kind(kind, Kind::Semicolon) && is_of_fields(tokens, opener))
 }
 
 /// Whether braces stand round the fields of a channel.
-pub fn is_of_fields(tokens: &[Token<'_>], opener: usize) -> bool {
+pub fn is_of_fields(tokens: &[Token<'_>], opener: usize) -> bool
+    ensures { result ≡ beside.is_of_fields tokens.now opener }
+{
     is_at(tokens, opener, Kind::OpenBrace) && is_before(tokens, opener, 1, Kind::Of)
-}
-
-/// Whether an `if` or a `do` is open in front of a token.
-fn is_in_options(tokens: &[Token<'_>], at: usize) -> bool {
-    let mut open = 0usize;
-    for token in between(tokens, 0, at) {
-        match token.kind() {
-            Kind::If | Kind::Do => open = open.saturating_add(1),
-            Kind::Fi | Kind::Od => open = open.saturating_sub(1),
-            _ => {}
-        }
-    }
-    open > 0
 }
 
 /// Whether braces with a statement in them stand in an option.
@@ -150,7 +95,7 @@ fn is_of_option(tokens: &[Token<'_>], opener: usize) -> bool {
     let is_filled = !is_at(tokens, opener.saturating_add(1), Kind::DoubleColon);
     is_at(tokens, opener, Kind::OpenBrace)
         && (is_before(tokens, opener, 1, Kind::Arrow)
-            || (is_filled && is_in_options(tokens, opener)))
+            || (is_filled && is_open(tokens, opener, &OPTIONS, &OPTION_ENDS)))
 }
 
 /// Whether the parameters of a proctype are open, and a name without a type stands directly before a token.
@@ -164,31 +109,27 @@ fn is_untyped(tokens: &[Token<'_>], opener: usize, at: usize) -> bool {
 }
 
 /// What a name without a type directly before a token is meant for, as a parameter.
-fn untyped(tokens: &[Token<'_>], at: usize) -> Foreign {
+fn untyped(tokens: &[Token<'_>], at: usize) -> Foreign
+    ensures { sorts.is_within result ≡ true }
+{
     match tokens.get(at.saturating_sub(1)) {
         Some(token) if token.text() == b"void".as_slice() => Foreign::NoParameters,
         _ => Foreign::ParameterType,
     }
 }
 
-/// Whether a token parts what stands between parentheses.
-fn parts(kind: Kind) -> bool {
-    matches!(
-        kind,
-        Kind::Comma | Kind::Colon | Kind::Dot | Kind::Semicolon | Kind::CloseParen
-    )
-}
-
 /// What a token is meant for in the parentheses that stand behind this kind.
-fn in_parens(before: Kind, kind: Kind) -> Option<Foreign> {
+fn in_parens(before: Kind, kind: Kind) -> Option<Foreign>
+    ensures { IfSome result (λ form. sorts.is_within form ≡ true) }
+{
     match before {
         Kind::Assert if same_kind(kind, Kind::Comma) => Some(Foreign::AssertText),
         Kind::For if same_kind(kind, Kind::DotDot) => Some(Foreign::LoopRange),
-        Kind::For if parts(kind) => Some(Foreign::Counting),
+        Kind::For if is_among(kind, &PARTS_OF_PARENS) => Some(Foreign::Counting),
         Kind::Semicolon | Kind::OpenBrace | Kind::Arrow if same_kind(kind, Kind::Comma) => {
             Some(Foreign::TwoAssignments)
         }
-        Kind::Select if parts(kind) => Some(Foreign::SelectRange),
+        Kind::Select if is_among(kind, &PARTS_OF_PARENS) => Some(Foreign::SelectRange),
         Kind::Bang | Kind::BangBang | Kind::Query | Kind::QueryQuery
             if same_kind(kind, Kind::Comma) => { Some(Foreign::MessageFields) }
         _ => None,
@@ -196,7 +137,9 @@ fn in_parens(before: Kind, kind: Kind) -> Option<Foreign> {
 }
 
 /// What a token is meant for among the arguments of a process, which the one at `opener` opens.
-fn argument(tokens: &[Token<'_>], opener: usize, kind: Kind) -> Option<Foreign> {
+fn argument(tokens: &[Token<'_>], opener: usize, kind: Kind) -> Option<Foreign>
+    ensures { IfSome result (λ form. sorts.is_within form ≡ true) }
+{
     if !is_before(tokens, opener, 2, Kind::Run) {
         return None;
     }
@@ -208,8 +151,10 @@ fn argument(tokens: &[Token<'_>], opener: usize, kind: Kind) -> Option<Foreign> 
 }
 
 /// What a token is meant for where a channel is asked for.
-fn asked(tokens: &[Token<'_>], opener: usize, at: usize) -> Option<Foreign> {
-    if !asks_channel(kind_before(tokens, opener, 1)) {
+fn asked(tokens: &[Token<'_>], opener: usize, at: usize) -> Option<Foreign>
+    ensures { IfSome result (λ form. sorts.is_within form ≡ true) }
+{
+    if !is_among(kind_before(tokens, opener, 1), &CHANNEL_QUESTIONS) {
         None
     } else if is_before(tokens, at, 1, Kind::Name) {
         Some(Foreign::ChannelAlone)
@@ -221,7 +166,9 @@ fn asked(tokens: &[Token<'_>], opener: usize, at: usize) -> Option<Foreign> {
 }
 
 /// What the token at `at` is meant for within parentheses.
-fn within_parens(tokens: &[Token<'_>], opener: usize, at: usize, kind: Kind) -> Option<Foreign> {
+fn within_parens(tokens: &[Token<'_>], opener: usize, at: usize, kind: Kind) -> Option<Foreign>
+    ensures { IfSome result (λ form. sorts.is_within form ≡ true) }
+{
     if is_half_range(tokens, opener, at) {
         return Some(Foreign::LoopRange);
     }
@@ -238,33 +185,26 @@ fn within_parens(tokens: &[Token<'_>], opener: usize, at: usize, kind: Kind) -> 
     if same_kind(kind, Kind::Of) && is_before(tokens, opener, 2, Kind::Proctype) {
         return Some(Foreign::ChannelParameter);
     }
-    if same_kind(kind, Kind::CloseParen) && has_arrow(tokens, opener, at) {
+    if same_kind(kind, Kind::CloseParen) && arrow_between(tokens, opener, at).is_some() {
         Some(Foreign::Implication)
     } else {
         None
     }
 }
 
-/// Whether names of `mtype` are open.
-fn is_of_names(tokens: &[Token<'_>], opener: usize) -> bool {
-    is_before(tokens, opener, 1, Kind::Mtype)
-        || are_before(tokens, opener, Kind::Mtype, Kind::Assign)
-}
-
-/// Whether a token stands behind a type in the fields of a channel.
-fn is_of_field(tokens: &[Token<'_>], at: usize, kind: Kind) -> bool {
-    matches!(kind, Kind::Name | Kind::OpenBracket) && is_type(kind_before(tokens, at, 1))
-}
-
 /// What a token is meant for in the fields of a channel.
-fn in_fields(tokens: &[Token<'_>], opener: usize, at: usize, kind: Kind) -> Option<Foreign> {
+fn in_fields(tokens: &[Token<'_>], opener: usize, at: usize, kind: Kind) -> Option<Foreign>
+    ensures { IfSome result (λ form. sorts.is_within form ≡ true) }
+{
     if same_kind(kind, Kind::Semicolon) {
         if is_closed(tokens, opener) && is_type(kind_behind(tokens, at)) {
             Some(Foreign::FieldComma)
         } else {
             None
         }
-    } else if is_of_field(tokens, at, kind) {
+    } else if matches!(kind, Kind::Name | Kind::OpenBracket)
+        && is_type(kind_before(tokens, at, 1))
+    {
         Some(Foreign::ChannelFields)
     } else if same_kind(kind, Kind::Name) {
         Some(Foreign::ChannelRecord)
@@ -273,25 +213,24 @@ fn in_fields(tokens: &[Token<'_>], opener: usize, at: usize, kind: Kind) -> Opti
     }
 }
 
-/// What a `::` is meant for that stands in no `if` and no `do`.
-fn option_at(tokens: &[Token<'_>], at: usize) -> Foreign {
-    match kind_before(tokens, at, 1) {
-        Kind::Fi | Kind::Od => Foreign::OptionBehind,
-        _ => Foreign::Cases,
-    }
-}
-
 /// What the token at `at` is meant for within braces.
-fn within_braces(tokens: &[Token<'_>], opener: usize, at: usize, kind: Kind) -> Option<Foreign> {
-    if same_kind(kind, Kind::Assign) && is_of_names(tokens, opener) {
+fn within_braces(tokens: &[Token<'_>], opener: usize, at: usize, kind: Kind) -> Option<Foreign>
+    ensures { IfSome result (λ form. sorts.is_within form ≡ true) }
+{
+    let is_of_names = is_before(tokens, opener, 1, Kind::Mtype)
+        || are_before(tokens, opener, Kind::Mtype, Kind::Assign);
+    if same_kind(kind, Kind::Assign) && is_of_names {
         return Some(Foreign::NumberedName);
     }
     if is_before(tokens, opener, 1, Kind::Of) {
         return in_fields(tokens, opener, at, kind);
     }
     if same_kind(kind, Kind::DoubleColon) && !is_of_option(tokens, opener) {
-        Some(option_at(tokens, at))
-    } else if begins_unit(kind) && is_closed(tokens, opener) && !is_declared_word(tokens, at) {
+        Some(match kind_before(tokens, at, 1) {
+            Kind::Fi | Kind::Od => Foreign::OptionBehind,
+            _ => Foreign::Cases,
+        })
+    } else if is_among(kind, &UNITS) && is_closed(tokens, opener) && !is_declared_word(tokens, at) {
         Some(Foreign::NestedUnit)
     } else {
         None
@@ -299,7 +238,9 @@ fn within_braces(tokens: &[Token<'_>], opener: usize, at: usize, kind: Kind) -> 
 }
 
 /// What the token at `at` is meant for within what the one at `opener` opens.
-pub fn form_within(tokens: &[Token<'_>], opener: usize, at: usize) -> Option<Foreign> {
+pub fn form_within(tokens: &[Token<'_>], opener: usize, at: usize) -> Option<Foreign>
+    ensures { IfSome result (λ form. sorts.is_within form ≡ true) }
+{
     let kind = kind_at(tokens, at);
     match kind_at(tokens, opener) {
         Kind::OpenParen => within_parens(tokens, opener, at, kind),

@@ -1,37 +1,21 @@
 //! Words of other languages, and names that are near to words of this one, beside the token that no rule reads.
 
+ghost use Rattle.std.specs.Prelude.{◌≡◌, true, OnOk, IfSome};
+ghost use Rattle.explain_syntax.specs.Wanted as sorts;
+ghost use Rattle.explain_syntax.specs.Beside as beside;
+
+use crate::called::name_behind;
 use crate::declared::meant_at;
-use crate::forms::{kind_before, kind_behind};
-use crate::stopped::{begin_of, is_before, is_type, name_at};
-use crate::within::{begins_unit, is_headless};
+use crate::kinds::{DECLARING, UNITS, is_type};
+use crate::stopped::{begin_of, is_before, kind_before, kind_behind, name_at};
+use crate::within::is_headless;
 use explain_cause::cause::{Expected, Named, Segment};
 use explain_cause::foreign::Foreign;
-use explain_cause::place::{between, bytes_at, is_at, kind_at, named};
+use explain_cause::place::{between, bytes_at, is_among, is_at, kind_at};
 use explain_cause::words::foreign_word;
 use explain_condition::near::nearest_word;
 use pml_token::token::{Kind, Token};
 use std::alloc::{AllocError, Global};
-
-/// Whether a name that stands behind a token of this kind is declared there.
-fn declares(kind: Kind) -> bool {
-    matches!(
-        kind,
-        Kind::Bit
-            | Kind::Bool
-            | Kind::Byte
-            | Kind::Chan
-            | Kind::Int
-            | Kind::Mtype
-            | Kind::Pid
-            | Kind::Short
-            | Kind::Unsigned
-            | Kind::Proctype
-            | Kind::Typedef
-            | Kind::Name
-            | Kind::Comma
-            | Kind::OpenBrace
-    )
-}
 
 /// Whether a name seems to be declared in front of the token at `end`.
 pub fn is_declared(tokens: &[Token<'_>], end: usize, name: &[u8]) -> bool {
@@ -43,21 +27,9 @@ pub fn is_declared(tokens: &[Token<'_>], end: usize, name: &[u8]) -> bool {
         if declared && token.text() == name {
             return true;
         }
-        declared = declares(token.kind());
+        declared = is_among(token.kind(), &DECLARING);
     }
     false
-}
-
-/// The proctype of a name.
-pub fn proctype_of<'t>(text: &'t [u8], tokens: &[Token<'_>], name: &[u8]) -> Option<Named<'t>> {
-    let mut declares = false;
-    for token in tokens {
-        if declares && token.text() == name {
-            return Some(named(text, token));
-        }
-        declares = matches!(token.kind(), Kind::Proctype);
-    }
-    None
 }
 
 /// A word of another language, and what it is meant for.
@@ -67,25 +39,21 @@ struct Spoken<'t> {
     name: Named<'t>,
 }
 
-/// A name that a definition without its first word begins with.
-fn headless<'t>(name: Named<'t>) -> Option<Spoken<'t>> {
-    let foreign = match foreign_word(name.name) {
-        Some(Foreign::Main) => Foreign::Main,
-        _ => Foreign::Headless,
-    };
-    Some(Spoken { foreign, name })
-}
-
 /// The token at `at`, where it is a name that nothing declares in front of it and a word of another language.
 fn word_at<'t>(text: &'t [u8], tokens: &[Token<'_>], at: usize) -> Option<Spoken<'t>> {
     if !is_at(tokens, at, Kind::Name) {
         return None;
     }
     let name = name_at(text, tokens, at);
+    let meant = foreign_word(name.name);
     if is_headless(tokens, at) {
-        return headless(name);
+        let foreign = match meant {
+            Some(Foreign::Main) => Foreign::Main,
+            _ => Foreign::Headless,
+        };
+        return Some(Spoken { foreign, name });
     }
-    match foreign_word(name.name) {
+    match meant {
         Some(foreign) if !is_declared(tokens, at, name.name) => {
             Some(Spoken {
                 foreign: meant_at(tokens, at, foreign),
@@ -161,7 +129,9 @@ fn word_in_front<'t>(text: &'t [u8], tokens: &[Token<'_>], at: usize) -> Option<
 }
 
 /// A word of another language at the token that no rule reads, or before it.
-pub fn foreign_beside<'t>(text: &'t [u8], tokens: &[Token<'_>], at: usize) -> Option<Expected<'t>> {
+pub fn foreign_beside<'t>(text: &'t [u8], tokens: &[Token<'_>], at: usize) -> Option<Expected<'t>>
+    ensures { IfSome result (λ wish. sorts.is_foreign wish ≡ true) }
+{
     match word_at(text, tokens, at).or(word_in_front(text, tokens, at)) {
         Some(word) => Some(Expected::ForeignWord(word.foreign, word.name)),
         None => None,
@@ -173,7 +143,9 @@ pub fn foreign_call<'t>(
     text: &'t [u8],
     tokens: &[Token<'_>],
     opener: usize,
-) -> Option<Expected<'t>> {
+) -> Option<Expected<'t>>
+    ensures { IfSome result (λ wish. sorts.is_foreign wish ≡ true) }
+{
     if !is_at(tokens, opener, Kind::OpenParen) || !is_before(tokens, opener, 1, Kind::Bang) {
         return None;
     }
@@ -207,7 +179,9 @@ fn joined_form(behind: Kind) -> Foreign {
 }
 
 /// A number of another form, or a label that begins with one, at the token that no rule reads or directly before it.
-pub fn number_beside<'t>(text: &'t [u8], tokens: &[Token<'_>], at: usize) -> Option<Expected<'t>> {
+pub fn number_beside<'t>(text: &'t [u8], tokens: &[Token<'_>], at: usize) -> Option<Expected<'t>>
+    ensures { IfSome result (λ wish. sorts.is_foreign wish ≡ true) }
+{
     if let Some(own) = joined_at(text, tokens, at) {
         return Some(Expected::ForeignWord(joined_form(kind_behind(tokens, at)), own));
     }
@@ -217,14 +191,18 @@ pub fn number_beside<'t>(text: &'t [u8], tokens: &[Token<'_>], at: usize) -> Opt
 }
 
 /// Whether a `=` stands behind two names, as of a type and its variable.
-pub fn is_typed(tokens: &[Token<'_>], at: usize) -> bool {
+pub fn is_typed(tokens: &[Token<'_>], at: usize) -> bool
+    ensures { result ≡ beside.is_typed tokens.now at }
+{
     is_at(tokens, at, Kind::Assign)
         && is_before(tokens, at, 1, Kind::Name)
         && is_before(tokens, at, 2, Kind::Name)
 }
 
 /// The name of a type that a variable is declared of, where a `=` stands behind the variable.
-pub fn type_before<'t>(text: &'t [u8], tokens: &[Token<'_>], at: usize) -> Option<Expected<'t>> {
+pub fn type_before<'t>(text: &'t [u8], tokens: &[Token<'_>], at: usize) -> Option<Expected<'t>>
+    ensures { IfSome result (λ wish. sorts.is_typed wish ≡ true) }
+{
     if !is_typed(tokens, at) {
         return None;
     }
@@ -256,15 +234,14 @@ pub fn is_record(tokens: &[Token<'_>], at: usize) -> bool {
     false
 }
 
-/// Whether a word declares something, or begins a unit.
-fn begins_declaration(kind: Kind) -> bool {
-    is_type(kind) || begins_unit(kind)
-}
-
 /// The name that stands in front of a type or of a unit, and is none of the words that do.
-pub fn no_word<'t>(text: &'t [u8], tokens: &[Token<'_>], at: usize) -> Option<Expected<'t>> {
+pub fn no_word<'t>(text: &'t [u8], tokens: &[Token<'_>], at: usize) -> Option<Expected<'t>>
+    ensures { IfSome result (λ wish. sorts.is_wordless wish ≡ true) }
+{
     let place = at.checked_sub(1)?;
-    if !begins_declaration(kind_at(tokens, at)) || !is_at(tokens, place, Kind::Name) {
+    let kind = kind_at(tokens, at);
+    let is_declaring = is_type(kind) || is_among(kind, &UNITS);
+    if !is_declaring || !is_at(tokens, place, Kind::Name) {
         return None;
     }
     let name = name_at(text, tokens, place);
@@ -284,7 +261,9 @@ pub fn called_variable<'t>(
     text: &'t [u8],
     tokens: &[Token<'_>],
     at: usize,
-) -> Option<Expected<'t>> {
+) -> Option<Expected<'t>>
+    ensures { IfSome result (λ wish. sorts.is_index wish ≡ true) }
+{
     let place = at.checked_sub(1)?;
     let name = name_at(text, tokens, place);
     if is_declared(tokens, place, name.name) {
@@ -299,7 +278,9 @@ pub fn proctype_beside<'t>(
     text: &'t [u8],
     tokens: &[Token<'_>],
     at: usize,
-) -> Option<Expected<'t>> {
+) -> Option<Expected<'t>>
+    ensures { IfSome result (λ wish. sorts.is_proctype wish ≡ true) }
+{
     if !is_before(tokens, at, 1, Kind::Name) {
         return None;
     }
@@ -310,7 +291,7 @@ pub fn proctype_beside<'t>(
     if !is_at(tokens, at, Kind::OpenParen) {
         return None;
     }
-    match proctype_of(text, tokens, name.name) {
+    match name_behind(text, tokens, Kind::Proctype, name.name) {
         Some(proctype) => Some(Expected::RunOf(proctype, name)),
         None => None,
     }
@@ -322,7 +303,9 @@ pub fn near_at<'t>(
     text: &'t [u8],
     tokens: &[Token<'_>],
     at: usize,
-) -> Result<Option<Expected<'t>>, AllocError> {
+) -> Result<Option<Expected<'t>>, AllocError>
+    ensures { OnOk result (λ found. IfSome found (λ wish. sorts.is_word wish ≡ true)) }
+{
     if !matches!(kind_at(tokens, at), Kind::Name) {
         return Ok(None);
     }
@@ -342,20 +325,13 @@ const CALLED: [&[u8]; 15] = [
     b"nempty", b"nfull", b"printf", b"printm", b"select",
 ];
 
-/// Whether `(` may stand behind a word of the language.
-fn is_called(word: &[u8]) -> bool {
-    for called in &CALLED {
-        if *called == word {
-            return true;
-        }
-    }
-    false
-}
-
 /// Whether a word may stand for the name directly in front of a token.
-fn may_be_meant(tokens: &[Token<'_>], at: usize, wanted: Option<Expected<'_>>) -> bool {
+fn may_be_meant(tokens: &[Token<'_>], at: usize, wanted: Option<Expected<'_>>) -> bool
+    ensures { result ≡ true → IfSome wanted.entry (λ wish. sorts.is_word wish ≡ true) }
+{
     match wanted {
-        Some(Expected::Word(_, word)) => !is_at(tokens, at, Kind::OpenParen) || is_called(word),
+        Some(Expected::Word(_, word)) => !is_at(tokens, at, Kind::OpenParen)
+            || CALLED.contains(&word),
         _ => false,
     }
 }
@@ -366,7 +342,9 @@ fn near_before<'t>(
     text: &'t [u8],
     tokens: &[Token<'_>],
     at: usize,
-) -> Result<Option<Expected<'t>>, AllocError> {
+) -> Result<Option<Expected<'t>>, AllocError>
+    ensures { OnOk result (λ found. IfSome found (λ wish. sorts.is_word wish ≡ true)) }
+{
     let Some(before) = at.checked_sub(1) else {
         return Ok(None);
     };
@@ -384,7 +362,9 @@ pub fn near_beside<'t>(
     text: &'t [u8],
     tokens: &[Token<'_>],
     at: usize,
-) -> Result<Option<Expected<'t>>, AllocError> {
+) -> Result<Option<Expected<'t>>, AllocError>
+    ensures { OnOk result (λ found. IfSome found (λ wish. sorts.is_word wish ≡ true)) }
+{
     match near_at(alloc, text, tokens, at)? {
         Some(wanted) => Ok(Some(wanted)),
         None => near_before(alloc, text, tokens, at),
