@@ -1,6 +1,6 @@
 //! Breaks and d_steps.
 
-ghost use Rattle.std.specs.Prelude.{◌≡◌, true, OnOk, IfSome};
+ghost use Rattle.std.specs.Prelude.{◌≡◌, true, IfSome, IfOk};
 ghost use Rattle.explain_condition.specs.Causes.{is_control};
 
 use crate::sign::{Lookup, NamedMark, Saying, first_name, front, place_of_name, sign_at, sign_of};
@@ -192,7 +192,7 @@ pub fn of_step<'t>(
     marks: &[Mark<'_>],
     at: usize,
 ) -> Result<Finding<'t>, AllocError>
-    ensures { OnOk result (λ found. is_control found.cause ≡ true) }
+    ensures { IfOk result (λ found. is_control found.cause ≡ true) }
 {
     match step_at(alloc, text, tokens, breaks, marks, at) {
         Ok(controlled) => Ok(told_step(controlled)),

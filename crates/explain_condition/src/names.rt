@@ -1,6 +1,6 @@
 //! Names that stand twice, and names that are not declared.
 
-ghost use Rattle.std.specs.Prelude.{◌≡◌, true, OnOk, IfSome};
+ghost use Rattle.std.specs.Prelude.{◌≡◌, true, IfSome, IfOk};
 ghost use Rattle.explain_condition.specs.Causes.{is_twice, is_unknown};
 
 use crate::near::{InScope, nearest, nearest_word};
@@ -171,7 +171,7 @@ fn nowhere<'t>(
     name: Named<'t>,
     wish: InScope,
 ) -> Result<Option<Unknown<'t>>, AllocError>
-    ensures { OnOk result (λ found. IfSome found (λ unknown. unknown.name.offset ≡ name.entry.offset)) }
+    ensures { IfOk result (λ found. IfSome found (λ unknown. unknown.name.offset ≡ name.entry.offset)) }
 {
     let cause = match nearest(alloc, text, seen, wish, name.name)? {
         Some(near) => UnknownCause::Nowhere(wish.sort, name.name, Some(near)),
@@ -200,7 +200,7 @@ fn of_missing<'t>(
     name: Named<'t>,
     wish: InScope,
 ) -> Result<Option<Unknown<'t>>, AllocError>
-    ensures { OnOk result (λ found. IfSome found (λ unknown. unknown.name.offset ≡ name.entry.offset)) }
+    ensures { IfOk result (λ found. IfSome found (λ unknown. unknown.name.offset ≡ name.entry.offset)) }
 {
     match declared_otherwise(text, marks, at, name.name, wish) {
         Some(cause) => Ok(Some(of_later(name, cause))),
@@ -220,7 +220,7 @@ fn no_field<'t>(
     holder: Named<'t>,
     owner: usize,
 ) -> Result<Option<Unknown<'t>>, AllocError>
-    ensures { OnOk result (λ found. IfSome found (λ unknown. unknown.name.offset ≡ name.entry.offset)) }
+    ensures { IfOk result (λ found. IfSome found (λ unknown. unknown.name.offset ≡ name.entry.offset)) }
 {
     let sort = NameSort::Field;
     let near = nearest(alloc, text, marks, InScope { sort, owner }, name.name)?;
@@ -236,7 +236,7 @@ fn of_lacking<'t>(
     name: Named<'t>,
     owner: usize,
 ) -> Result<Option<Unknown<'t>>, AllocError>
-    ensures { OnOk result (λ found. IfSome found (λ unknown. unknown.name.offset ≡ name.entry.offset)) }
+    ensures { IfOk result (λ found. IfSome found (λ unknown. unknown.name.offset ≡ name.entry.offset)) }
 {
     match first_name(text, marks, Lookup::Fields(owner), b"") {
         Some(holder) => no_field(alloc, text, marks, name, holder, owner),
@@ -339,7 +339,7 @@ pub fn of_unknown<'t>(
     marks: &[Mark<'_>],
     at: usize,
 ) -> Result<Finding<'t>, AllocError>
-    ensures { OnOk result (λ found. is_unknown found.cause ≡ true) }
+    ensures { IfOk result (λ found. is_unknown found.cause ≡ true) }
 {
     match unknown_at(alloc, text, marks, at) {
         Ok(unknown) => Ok(told(unknown)),

@@ -1,6 +1,6 @@
 //! The first state.
 
-ghost use Rattle.std.specs.Prelude.{◌≡◌, ◌<◌, ◌≤◌, length, true, OnOk, IfSome};
+ghost use Rattle.std.specs.Prelude.{◌≡◌, ◌<◌, ◌≤◌, length, true, IfSome, IfOk};
 ghost use Rattle.check_names.specs.Env.{env};
 ghost use Rattle.explain_condition.specs.Causes.{is_start};
 
@@ -146,7 +146,7 @@ pub fn of_start<'t>(
     text: &'t [u8],
     marks: &[Mark<'_>],
 ) -> Result<Finding<'t>, AllocError>
-    ensures { OnOk result (λ found. is_start found.cause ≡ true) }
+    ensures { IfOk result (λ found. is_start found.cause ≡ true) }
 {
     match full_of(alloc, marks) {
         Ok(full) => Ok(told(of_full(text, marks, full))),

@@ -1,6 +1,6 @@
 //! Names and values of the wrong kind.
 
-ghost use Rattle.std.specs.Prelude.{◌≡◌, length, true, option_map, OnOk, IfSome};
+ghost use Rattle.std.specs.Prelude.{◌≡◌, length, true, option_map, IfSome, IfOk};
 ghost use Rattle.explain_condition.specs.Causes.{is_wrong, sort_of as sort_there};
 ghost use Rattle.explain_condition.specs.Walks.{offset_at, told_number, end_told};
 
@@ -386,7 +386,7 @@ pub fn of_wrong<'t>(
     marks: &[Mark<'_>],
     at: usize,
 ) -> Result<Finding<'t>, AllocError>
-    ensures { OnOk result (λ found. is_wrong found.cause ≡ true) }
+    ensures { IfOk result (λ found. is_wrong found.cause ≡ true) }
 {
     match wrong_at(alloc, text, tokens, marks, at) {
         Ok(wrong) => Ok(told(wrong, declared_at(text, marks, at))),
