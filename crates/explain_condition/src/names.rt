@@ -2,6 +2,7 @@
 
 ghost use Rattle.std.specs.Prelude.{◌≡◌, true, IfSome, IfOk};
 ghost use Rattle.explain_condition.specs.Causes.{is_twice, is_unknown};
+ghost use Rattle.explain_condition.specs.Told as told_of;
 
 use crate::near::{InScope, nearest, nearest_word};
 use crate::sign::{
@@ -112,7 +113,9 @@ fn declared_otherwise<'t>(
 }
 
 /// How many marks may declare what is wanted: a proctype may be declared behind its use.
-fn declaring(all: usize, at: usize, sort: NameSort) -> usize {
+fn declaring(all: usize, at: usize, sort: NameSort) -> usize
+    ensures { result ≡ told_of.declaring all at sort }
+{
     match sort {
         NameSort::Proctype => all,
         _ => at,
@@ -120,7 +123,9 @@ fn declaring(all: usize, at: usize, sort: NameSort) -> usize {
 }
 
 /// Whether a word of another language may as well be a variable that was not declared, as `lock` or `size`.
-fn is_thing(foreign: Foreign) -> bool {
+fn is_thing(foreign: Foreign) -> bool
+    ensures { result ≡ told_of.is_thing foreign }
+{
     matches!(
         foreign,
         Foreign::Lock
