@@ -1,5 +1,5 @@
 -- Which tokens begin declarations, which open and close brackets, and which end the declaration of a name.
-use Rattle.std.specs.Prelude.{ℕ, ◌&&◌, ◌||◌, List, Bool, true, false, Option, Some, None}
+use Rattle.std.specs.Prelude.{ℕ, ◌&&◌, ◌||◌, List, [], ◌∷◌, ◌+◌, Bool, true, false, Option, Some, None}
 use Rattle.std.specs.List.{slice_get}
 use Rattle.pml_token.specs.Word.{Word}
 use Rattle.pml_token.specs.declared.token.Kind.{Kind}
@@ -55,6 +55,10 @@ labels kind.Name kind.Colon kind.For = true
 labels kind.Name kind.Colon kind.Select = true
 labels _ _ _ = false
 
+-- the lines of the label at a place, and of the loop behind it
+abbrev pub label_lines : List Word → ℕ → List ℕ
+label_lines tokens at = line_of (slice_get tokens at) ∷ line_of (slice_get tokens (at + 2)) ∷ []
+
 -- the kind of the token at a place
 abbrev pub kind_in : List Word → ℕ → Kind
 kind_in tokens at = kind_of (slice_get tokens at)
@@ -63,6 +67,11 @@ kind_in tokens at = kind_of (slice_get tokens at)
 abbrev pub is_name : Kind → Bool
 is_name kind.Name = true
 is_name _ = false
+
+-- these tokens begin with a value that is one name
+abbrev pub is_one_name : List Word → Bool
+is_one_name (name ∷ behind ∷ _) = is_name name.kind && ends behind.kind
+is_one_name _ = false
 
 -- a list of names begins behind the first of these: behind a type, and behind a typedef's name
 abbrev pub begins : Kind → Kind → Bool

@@ -1,3 +1,10 @@
+pub mod Beside
+pub mod Claims
 pub mod Declarations
+pub mod Lists
+pub mod Loose
+pub mod Numbers
 pub mod Parts
 pub mod Shown
+pub mod Strides
+pub mod Trails

@@ -1,11 +1,25 @@
 -- Parts of a text.
-use Rattle.std.specs.Prelude.{◌≡◌, take, drop, length, codes, ◌||◌, ◌&&◌, ℕ, leb, nat_eq, List, [], ◌∷◌, Bool, true, false, Some}
+use Rattle.std.specs.Prelude.{◌≡◌, if◌then◌else◌, take, drop, length, codes, ◌||◌, ◌&&◌, ℕ, leb, nat_eq, List, [], ◌∷◌, Bool, true, false, Some}
 use Rattle.std.specs.List.{list_any, slice_get}
 use Rattle.std.specs.Str.{bytes_eq}
 
 -- a blank, a tab or a carriage return
 abbrev pub is_blank : ℕ → Bool
 is_blank b = nat_eq b 32 || (nat_eq b 9 || nat_eq b 13)
+
+-- a text without the blanks before it
+abbrev pub behind_blanks : List ℕ → List ℕ
+behind_blanks [] = []
+behind_blanks (b ∷ bs) = if is_blank b then behind_blanks bs else b ∷ bs
+
+-- a word stands first in a text
+abbrev pub leads : List ℕ → List ℕ → Bool
+leads text word = bytes_eq (take (length word) text) word
+
+-- a text has a word
+abbrev pub has : List ℕ → List ℕ → Bool
+has [] word = false
+has (b ∷ bs) word = leads (b ∷ bs) word || has bs word
 
 -- a text begins so
 abbrev pub IsFront : List ℕ → List ℕ → Type 0

@@ -1,5 +1,9 @@
 //! What Spin prints beside the steps of a trail: to which line a claim moves, and where a cycle begins.
 
+ghost use Rattle.std.specs.Prelude.{◌≡◌, Some, IfSome, if◌then◌else◌};
+ghost use Rattle.trail_text.specs.Shown.{tells_cycle};
+ghost use Rattle.trail_text.specs.Beside.{claim_line};
+
 use crate::scan::{Lines, behind_blanks, number_first};
 
 /// What a line of a trail says that tells of no process.
@@ -12,7 +16,9 @@ pub enum Beside {
 }
 
 // What a line says, if it is such a one: `Never claim moves to line 4`, `  <<<<<START OF CYCLE>>>>>`.
-fn beside_in(line: &[u8]) -> Option<Beside> {
+fn beside_in(line: &[u8]) -> Option<Beside>
+    ensures { result ≡ (if tells_cycle line.now then Some Beside.Cycle else claim_line line.now) }
+{
     if behind_blanks(line).starts_with(b"<<<<<START OF CYCLE") {
         return Some(Beside::Cycle);
     }
@@ -22,7 +28,9 @@ fn beside_in(line: &[u8]) -> Option<Beside> {
 }
 
 /// The next of these lines that says something beside the steps, with its number in the file.
-pub fn next_beside(lines: &mut Lines<'_>) -> Option<(usize, Beside)> {
+pub fn next_beside(lines: &mut Lines<'_>) -> Option<(usize, Beside)>
+    ensures { IfSome result (λ said. said.0 ≡ lines.new.row) }
+{
     for _ in 0..lines.rest.len() {
         let line = lines.next()?;
         if let Some(beside) = beside_in(line) {

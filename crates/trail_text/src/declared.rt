@@ -1,7 +1,8 @@
 //! What Spin shows of a declaration that is a statement there: `t = x + 1`, and `t = 0` where no value is written.
 
-ghost use Rattle.std.specs.Prelude.{◌≡◌, ◌≤◌, length, IfSome};
-ghost use Rattle.trail_text.specs.Declarations.{opens, closes, ends};
+ghost use Rattle.std.specs.Prelude.{◌≡◌, ◌≤◌, length, drop, IfSome, IfOk};
+ghost use Rattle.trail_text.specs.Declarations.{opens, closes, ends, is_one_name};
+ghost use Rattle.trail_text.specs.Lists.{is_shown_as};
 ghost use Rattle.view_text.specs.Written.{Stays};
 
 use crate::spelled::add_spelled;
@@ -84,10 +85,12 @@ fn add_value(tokens: &[Token<'_>], from: usize, out: &mut Writer)
     }
 }
 
-// Whether the value whose first token this is is one name.
-fn is_name(tokens: &[Token<'_>], from: usize) -> bool {
-    match tokens.get(from..) {
-        Some([name, behind, ..]) => name.kind() == Kind::Name && is_end(behind.kind()),
+// Whether the value that begins with these tokens is one name.
+fn is_name(tokens: &[Token<'_>]) -> bool
+    ensures { result ≡ is_one_name tokens.now }
+{
+    match tokens {
+        [name, behind, ..] => name.kind() == Kind::Name && is_end(behind.kind()),
         _ => false,
     }
 }
@@ -109,7 +112,7 @@ fn add_statement(tokens: &[Token<'_>], at: usize, out: &mut Writer) -> usize
         return out.len();
     };
     add_value(tokens, from, out);
-    if is_name(tokens, from) {
+    if is_name(&tokens[from..]) {
         before
     } else {
         out.len()
@@ -123,7 +126,9 @@ impl Declaring {
         at: usize,
         line: usize,
         alloc: Global,
-    ) -> Result<Declaring, AllocError> {
+    ) -> Result<Declaring, AllocError>
+        ensures { IfOk result (λ declaring. declaring.line ≡ line) }
+    {
         let mut out = Writer::new(alloc);
         let known = add_statement(tokens, at, &mut out);
         Ok(Declaring {
@@ -134,7 +139,9 @@ impl Declaring {
     }
 
     /// Whether Spin may show a statement of a line for it, which is given in one spelling.
-    pub fn is_shown_as(&self, statement: &[u8], line: usize) -> bool {
+    pub fn is_shown_as(&self, statement: &[u8], line: usize) -> bool
+        ensures { result ≡ is_shown_as self.now statement.now line }
+    {
         let known = self.known.min(self.statement.len());
         let is_whole = known == self.statement.len() && statement.len() != known;
         self.line == line && !is_whole && statement.starts_with(&self.statement[..known])

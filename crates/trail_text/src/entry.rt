@@ -1,7 +1,8 @@
 //! The lines of a trail.
 
-ghost use Rattle.std.specs.Prelude.{◌≡◌, IfSome};
-ghost use Rattle.trail_text.specs.Shown.{is_else};
+ghost use Rattle.std.specs.Prelude.{◌≡◌, true, false, Some, codes, IfSome};
+ghost use Rattle.trail_text.specs.Parts.{has};
+ghost use Rattle.trail_text.specs.Shown.{is_else, gives_value, begins};
 
 use crate::scan::{
     Lines, before_blanks, before_last, behind_blanks, number_first, number_last, parted,
@@ -27,7 +28,9 @@ impl<'t> Event<'t> {
     }
 
     /// Whether it gives a variable another number than 0.
-    pub fn gives_value(&self) -> bool {
+    pub fn gives_value(&self) -> bool
+        ensures { result ≡ gives_value self.now }
+    {
         match self {
             Event::Statement(_, text) => {
                 parted(text, b" = ").is_some() && !text.ends_with(b" = 0")
@@ -60,7 +63,9 @@ fn line_in(place: &[u8]) -> Option<usize> {
 
 // What stands behind the number of a process: `(P:1) model.pml:5 (state 2) [x = 1]`, `terminates`, or, in a run by chance,
 // `(P:1) terminates`.
-fn event_of(text: &[u8]) -> Option<Event<'_>> {
+fn event_of(text: &[u8]) -> Option<Event<'_>>
+    ensures { has text.now (codes ") ") ≡ false → begins text.now (codes "terminates") ≡ true → result ≡ Some Event.Death }
+{
     let behind_name = match parted(text, b") ") {
         Some((_, behind)) => behind,
         None => text,
@@ -104,12 +109,16 @@ fn entry_of(row: usize, text: &[u8]) -> Option<Entry<'_>>
 const LAST: &[u8] = b"spin: trail ends";
 
 /// Whether a file has the line behind the last one of a trail.
-pub fn is_ended(text: &[u8]) -> bool {
+pub fn is_ended(text: &[u8]) -> bool
+    ensures { result ≡ has text.now (codes "spin: trail ends") }
+{
     parted(text, LAST).is_some()
 }
 
 /// The next of these lines that tells of a process.
-pub fn next_entry<'t>(lines: &mut Lines<'t>) -> Option<Entry<'t>> {
+pub fn next_entry<'t>(lines: &mut Lines<'t>) -> Option<Entry<'t>>
+    ensures { IfSome result (λ e. e.row ≡ lines.new.row) }
+{
     for _ in 0..lines.rest.len() {
         let line = lines.next()?;
         if line.starts_with(LAST) {

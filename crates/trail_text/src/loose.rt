@@ -1,9 +1,8 @@
 //! Statements that are the same but for names of an mtype: Spin gives a number of one subtype the name of another, or writes the number.
 
 ghost use Rattle.std.specs.Prelude.{◌≡◌, ◌++◌};
-ghost use Rattle.std.specs.List.{list_any};
-ghost use Rattle.std.specs.Str.{bytes_eq};
 ghost use Rattle.trail_text.specs.Parts.{is_number};
+ghost use Rattle.trail_text.specs.Loose.{is_mtype, stands_for};
 
 use crate::spelled::word_size;
 use pml_token::token::Token;
@@ -18,13 +17,15 @@ fn is_number(word: &[u8]) -> bool
 }
 
 fn is_mtype(names: &[Token<'_>], word: &[u8]) -> bool
-    ensures { result ≡ list_any (λ name. bytes_eq name.text word.now) names.now }
+    ensures { result ≡ is_mtype names.now word.now }
 {
     names.iter().any(|name| name.text() == word)
 }
 
 // Whether one may stand for the other: a name for a name, or for a number.
-fn stands_for(names: &[Token<'_>], one: &[u8], other: &[u8]) -> bool {
+fn stands_for(names: &[Token<'_>], one: &[u8], other: &[u8]) -> bool
+    ensures { result ≡ stands_for names.now one.now other.now }
+{
     let first = is_mtype(names, one);
     let second = is_mtype(names, other);
     (first && (second || is_number(other))) || (second && is_number(one))

@@ -1,8 +1,9 @@
 //! Where a model declares which names, and where a label stands before a `for` or a `select`: by its tokens, once its inlines are replaced.
 
-ghost use Rattle.std.specs.Prelude.{◌≡◌, ◌<◌, ◌+◌, ◌^◌};
-ghost use Rattle.std.specs.List.{slice_get};
-ghost use Rattle.trail_text.specs.Declarations.{types, kind_of, kind_in, line_of, labels, begins};
+ghost use Rattle.std.specs.Prelude.{◌≡◌, ◌<◌, ◌+◌, ◌^◌, ◌++◌, [], nat_eq, IfOk, OnOk};
+ghost use Rattle.std.specs.List.{slice_get, list_any};
+ghost use Rattle.trail_text.specs.Declarations.{types, kind_of, kind_in, line_of, labels, label_lines, begins};
+ghost use Rattle.trail_text.specs.Lists.{is_shown_as, behind_plain, behind, opened, list_behind};
 
 use crate::declared::{Declaring, is_closing, is_opening};
 use pml_token::token::{Kind, Token};
@@ -18,7 +19,7 @@ pub struct Marks {
 
 // A list of names that is being declared.
 #[derive(Clone, Copy)]
-struct List {
+struct NameList {
     /// How many brackets are open in it.
     depth: usize,
     /// The next name is declared.
@@ -69,14 +70,16 @@ fn begins(tokens: &[Token<'_>], at: usize) -> bool
 }
 
 // The list behind a token that stands in no brackets of it; none where it has ended.
-fn behind_plain(list: List, kind: Kind) -> Option<List> {
+fn behind_plain(list: NameList, kind: Kind) -> Option<NameList>
+    ensures { result ≡ behind_plain list kind }
+{
     match kind {
         Kind::Semicolon | Kind::Arrow => None,
-        Kind::Comma => Some(List {
+        Kind::Comma => Some(NameList {
             is_expected: true,
             ..list
         }),
-        _ => Some(List {
+        _ => Some(NameList {
             is_expected: false,
             ..list
         }),
@@ -84,9 +87,11 @@ fn behind_plain(list: List, kind: Kind) -> Option<List> {
 }
 
 // The list behind a token of it.
-fn behind(list: List, kind: Kind) -> Option<List> {
+fn behind(list: NameList, kind: Kind) -> Option<NameList>
+    ensures { result ≡ behind list kind }
+{
     if is_opening(kind) {
-        return Some(List {
+        return Some(NameList {
             depth: list.depth.saturating_add(1),
             is_expected: false,
         });
@@ -99,7 +104,7 @@ fn behind(list: List, kind: Kind) -> Option<List> {
         };
     }
     if is_closing(kind) {
-        return Some(List {
+        return Some(NameList {
             depth: list.depth - 1,
             is_expected: false,
         });
@@ -108,9 +113,11 @@ fn behind(list: List, kind: Kind) -> Option<List> {
 }
 
 // The list behind a token that is in none.
-fn opened(tokens: &[Token<'_>], at: usize) -> Option<List> {
+fn opened(tokens: &[Token<'_>], at: usize) -> Option<NameList>
+    ensures { at + 1 < 2 ^ 64 → result ≡ opened (begins (kind_in tokens.now at) (kind_in tokens.now (at + 1))) }
+{
     if begins(tokens, at) {
-        Some(List {
+        Some(NameList {
             depth: 0,
             is_expected: true,
         })
@@ -140,7 +147,10 @@ fn is_labelled(tokens: &[Token<'_>], at: usize) -> bool
 
 impl Marks {
     /// Of no model.
-    pub fn new(alloc: Global) -> Marks {
+    pub fn new(alloc: Global) -> Marks
+        ensures declared { result.declared.items ≡ [] }
+        ensures labelled { result.labelled.items ≡ [] }
+    {
         Marks {
             declared: Vec::new(alloc),
             labelled: Vec::new(alloc),
@@ -148,7 +158,9 @@ impl Marks {
     }
 
     // Marks the label that stands here.
-    fn label(&mut self, tokens: &[Token<'_>], at: usize) -> Result<(), AllocError> {
+    fn label(&mut self, tokens: &[Token<'_>], at: usize) -> Result<(), AllocError>
+        ensures { at + 2 < 2 ^ 64 → OnOk result (self.new.labelled.items ≡ self.old.labelled.items ++ label_lines tokens.now at) }
+    {
         self.labelled.push(line_at(tokens, at))?;
         self.labelled.push(line_at(tokens, at.saturating_add(2)))?;
         Ok(())
@@ -159,8 +171,10 @@ impl Marks {
         &mut self,
         tokens: &[Token<'_>],
         at: usize,
-        list: Option<List>,
-    ) -> Result<Option<List>, AllocError> {
+        list: Option<NameList>,
+    ) -> Result<Option<NameList>, AllocError>
+        ensures { at + 1 < 2 ^ 64 → IfOk result (λ behind. behind ≡ list_behind tokens.now at list) }
+    {
         if is_labelled(tokens, at) {
             self.label(tokens, at)?;
         }
@@ -188,14 +202,18 @@ impl Marks {
     }
 
     /// Whether Spin may show a statement of a line for a declaration there; it is given in one spelling.
-    pub fn is_declared(&self, statement: &[u8], line: usize) -> bool {
+    pub fn is_declared(&self, statement: &[u8], line: usize) -> bool
+        ensures { result ≡ list_any (λ d. is_shown_as d statement.now line) self.now.declared.items }
+    {
         self.declared
             .iter()
             .any(|declared| declared.is_shown_as(statement, line))
     }
 
     /// Whether a label before a `for` or a `select`, or that, stands on a line.
-    pub fn is_labelled(&self, line: usize) -> bool {
+    pub fn is_labelled(&self, line: usize) -> bool
+        ensures { result ≡ list_any (λ labelled. nat_eq labelled line) self.now.labelled.items }
+    {
         self.labelled.iter().any(|labelled| *labelled == line)
     }
 }

@@ -1,7 +1,7 @@
 //! Statements that only one of the two has: Spin leaves out most jumps, and shows what the machine has not.
 
 ghost use Rattle.std.specs.Prelude.{◌≡◌, ◌&&◌, codes};
-ghost use Rattle.trail_text.specs.Shown.{begins, is_of_machine};
+ghost use Rattle.trail_text.specs.Shown.{begins, is_of_machine, is_jump, is_of_spin};
 
 // What Spin shows of jumps, of the ends of selections and of sequences.
 const JUMPS: [&[u8]; 10] = [
@@ -17,14 +17,22 @@ const JUMPS: [&[u8]; 10] = [
     b"-end-",
 ];
 
-/// Whether Spin may show this of a statement that is no step of the machine: of a record that is declared behind a statement it shows nothing.
-pub fn is_of_spin(text: &[u8]) -> bool {
+fn is_jump(text: &[u8]) -> bool
+    ensures { result ≡ is_jump text.now }
+{
     for jump in JUMPS {
         if text == jump {
             return true;
         }
     }
-    text.is_empty() || text.starts_with(b"goto ") || text.starts_with(b"D_STEP")
+    false
+}
+
+/// Whether Spin may show this of a statement that is no step of the machine: of a record that is declared behind a statement it shows nothing.
+pub fn is_of_spin(text: &[u8]) -> bool
+    ensures { result ≡ is_of_spin text.now }
+{
+    is_jump(text) || text.is_empty() || text.starts_with(b"goto ") || text.starts_with(b"D_STEP")
 }
 
 /// Whether the machine may take a step with this text that Spin does not show.

@@ -1,5 +1,9 @@
 //! What Spin says of a trail beside its steps: where a cycle starts, which assertion failed, and the claim that ended it.
 
+ghost use Rattle.std.specs.Prelude.{◌≡◌, ◌||◌, true, false, Some, codes, is_some, IfSome, if◌then◌else◌};
+ghost use Rattle.trail_text.specs.Parts.{has};
+ghost use Rattle.trail_text.specs.Shown.{begins, tells_cycle, tells_failure, tells_text, is_of_claim};
+ghost use Rattle.trail_text.specs.Claims.{IsClaim, is_ended_by};
 ghost use Rattle.view_text.specs.Written.{Stays};
 
 use crate::scan::{Lines, before_blanks, behind_blanks, parted};
@@ -27,7 +31,9 @@ pub struct FailedAssertion<'t> {
 }
 
 // The place in `spin: m.pml:9, Error: assertion violated`.
-fn failed_at(line: &[u8]) -> Option<&[u8]> {
+fn failed_at(line: &[u8]) -> Option<&[u8]>
+    ensures { is_some result ≡ tells_failure line.now }
+{
     let (place, _) = parted(
         line.strip_prefix(b"spin: ")?,
         b", Error: assertion violated",
@@ -36,16 +42,22 @@ fn failed_at(line: &[u8]) -> Option<&[u8]> {
 }
 
 // The text in `spin: text of failed assertion: assert(0)`.
-fn failed_text(line: &[u8]) -> Option<&[u8]> {
+fn failed_text(line: &[u8]) -> Option<&[u8]>
+    ensures { is_some result ≡ tells_text line.now }
+{
     Some(before_blanks(line.strip_prefix(b"spin: text of failed assertion: ")?))
 }
 
-fn is_of_claim(line: &[u8]) -> bool {
+fn is_of_claim(line: &[u8]) -> bool
+    ensures { result ≡ is_of_claim line.now }
+{
     line.starts_with(b"Never claim moves to line ") && parted(line, b"[assert").is_some()
 }
 
 // The name in ` 13: proc  - (p:1) ..`, which is said of a claim behind the trail's end, and whether it stands where it may end.
-fn claim_in(line: &[u8]) -> Option<(&[u8], bool)> {
+fn claim_in(line: &[u8]) -> Option<(&[u8], bool)>
+    ensures { IfSome result (λ claim. IsClaim line.now claim.0.now claim.1) }
+{
     let (_, behind) = parted(line, b"proc  - (")?;
     let (name, rest) = parted(behind, b":")?;
     Some((name, parted(rest, b"<valid end state>").is_some()))
@@ -53,7 +65,10 @@ fn claim_in(line: &[u8]) -> Option<(&[u8], bool)> {
 
 impl<'t> Said<'t> {
     // What a line adds.
-    fn add(&mut self, row: usize, line: &'t [u8]) {
+    fn add(&mut self, row: usize, line: &'t [u8])
+        ensures cycle { tells_cycle line.now ≡ true → self.new.cycle ≡ Some row }
+        ensures kept { tells_cycle line.now ≡ false → self.new.cycle ≡ self.old.cycle }
+    {
         if behind_blanks(line).starts_with(b"<<<<<START OF CYCLE") {
             self.cycle = Some(row);
         } else if let Some(place) = failed_at(line) {
@@ -72,7 +87,10 @@ impl<'t> Said<'t> {
     }
 
     // Where the claim of this name stands behind the last step.
-    fn end_by(&mut self, name: &'t [u8], is_end: bool) {
+    fn end_by(&mut self, name: &'t [u8], is_end: bool)
+        ensures cycle { self.new.cycle ≡ self.old.cycle }
+        ensures claim { self.new.claim ≡ (if is_ended_by self.old is_end then Some name.entry else self.old.claim) }
+    {
         let fails = match self.failed {
             Some(failed) => failed.is_of_claim,
             None => false,
@@ -84,7 +102,12 @@ impl<'t> Said<'t> {
 }
 
 // What a line behind that of an assertion adds to it.
-fn behind_failed<'t>(failed: FailedAssertion<'t>, line: &'t [u8]) -> FailedAssertion<'t> {
+fn behind_failed<'t>(failed: FailedAssertion<'t>, line: &'t [u8]) -> FailedAssertion<'t>
+    ensures place { result.place ≡ failed.entry.place }
+    ensures text { tells_text line.now ≡ false → result.text ≡ failed.entry.text }
+    ensures claim { tells_text line.now ≡ false → result.is_of_claim ≡ (failed.entry.is_of_claim || is_of_claim line.now) }
+    ensures step { tells_text line.now ≡ false → result.is_step ≡ (failed.entry.is_step || has line.now (codes "[assert")) }
+{
     match failed_text(line) {
         Some(text) => FailedAssertion { text, ..failed },
         None => FailedAssertion {

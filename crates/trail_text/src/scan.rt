@@ -1,7 +1,10 @@
 //! What stands where in a line.
 
-ghost use Rattle.std.specs.Prelude.{◌≡◌, ◌+◌, ◌≤◌, ◌<◌, length, IfSome};
-ghost use Rattle.trail_text.specs.Parts.{is_blank, IsFront, IsEnd, IsParted, IsBefore};
+ghost use Rattle.std.specs.Prelude.{◌≡◌, ◌+◌, ◌≤◌, ◌<◌, length, is_some, IfSome};
+ghost use Rattle.std.specs.List.{prefix_len};
+ghost use Rattle.std.specs.Option.{option_map};
+ghost use Rattle.trail_text.specs.Parts.{is_blank, behind_blanks, IsFront, IsEnd, IsParted, IsBefore, has};
+ghost use Rattle.trail_text.specs.Numbers.{is_digit, number, first_number, IsLastNumber};
 
 fn is_blank(byte: u8) -> bool
     ensures { result ≡ is_blank byte }
@@ -11,7 +14,8 @@ fn is_blank(byte: u8) -> bool
 
 /// A text without the blanks before it.
 pub fn behind_blanks(text: &[u8]) -> &[u8]
-    ensures { IsEnd result.now text.now }
+    ensures end { IsEnd result.now text.now }
+    ensures exact { result.now ≡ behind_blanks text.now }
 {
     for at in 0..text.len() {
         if !is_blank(text[at]) {
@@ -38,10 +42,12 @@ pub fn before_blanks(text: &[u8]) -> &[u8]
 pub fn parted<'t>(text: &'t [u8], word: &[u8]) -> Option<(&'t [u8], &'t [u8])>
     ensures parted { IfSome result (λ p. IsParted text.now word.now p.0.now p.1.now) }
     ensures shorter { IfSome result (λ p. length p.1.now + length word.now ≤ length text.now) }
+    ensures has { is_some result ≡ has text.now word.now }
 {
     for at in 0..text.len() {
-        if let Some(behind) = text[at..].strip_prefix(word) {
-            return Some((&text[..at], behind));
+        match text[at..].strip_prefix(word) {
+            Some(behind) => return Some((&text[..at], behind)),
+            None => {}
         }
     }
     None
@@ -62,7 +68,8 @@ pub fn before_last(text: &[u8], byte: u8) -> Option<&[u8]>
 
 // How many digits stand first.
 fn digit_count(text: &[u8]) -> usize
-    ensures { result ≤ length text.now }
+    ensures within { result ≤ length text.now }
+    ensures count { result ≡ prefix_len is_digit text.now }
 {
     for at in 0..text.len() {
         if !text[at].is_ascii_digit() {
@@ -73,7 +80,9 @@ fn digit_count(text: &[u8]) -> usize
 }
 
 // The number of these digits.
-fn number_of(digits: &[u8]) -> usize {
+fn number_of(digits: &[u8]) -> usize
+    ensures { result ≡ number digits.now }
+{
     let mut number = 0usize;
     for digit in digits {
         number = number
@@ -85,7 +94,8 @@ fn number_of(digits: &[u8]) -> usize {
 
 /// The number that stands first, and what stands behind it.
 pub fn number_first(text: &[u8]) -> Option<(usize, &[u8])>
-    ensures { IfSome result (λ p. IsEnd p.1.now text.now × (length p.1.now < length text.now)) }
+    ensures end { IfSome result (λ p. IsEnd p.1.now text.now × (length p.1.now < length text.now)) }
+    ensures number { option_map (λ p. p.0) result ≡ first_number text.now }
 {
     let count = digit_count(text);
     if count == 0 {
@@ -95,7 +105,9 @@ pub fn number_first(text: &[u8]) -> Option<(usize, &[u8])>
 }
 
 /// The number that stands last.
-pub fn number_last(text: &[u8]) -> Option<usize> {
+pub fn number_last(text: &[u8]) -> Option<usize>
+    ensures { IfSome result (IsLastNumber text.now) }
+{
     let mut start = text.len();
     for behind in 0..text.len() {
         let at = text.len() - behind - 1;

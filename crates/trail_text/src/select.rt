@@ -2,6 +2,7 @@
 
 ghost use Rattle.std.specs.Prelude.{◌<◌, List, ℕ, IfSome, codes};
 ghost use Rattle.trail_text.specs.Parts.{IsParted};
+ghost use Rattle.trail_text.specs.Strides.{IsStride};
 
 use crate::scan::{number_first, parted};
 
@@ -42,7 +43,9 @@ pub enum Stride {
 }
 
 /// What a spelled statement does in a `select` that is to come to another, if it is a part of it.
-pub fn stride_of(spelled: &[u8], wanted: &[u8]) -> Option<Stride> {
+pub fn stride_of(spelled: &[u8], wanted: &[u8]) -> Option<Stride>
+    ensures { IfSome result (IsStride spelled.now wanted.now) }
+{
     let (name, _) = assigned(wanted)?;
     let behind = spelled.strip_prefix(name)?;
     if behind.starts_with(b"<") {

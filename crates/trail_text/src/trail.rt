@@ -1,5 +1,8 @@
 //! A trail, as far as it was followed.
 
+ghost use Rattle.std.specs.Prelude.{◌≡◌, ◌+◌, ◌<◌, true, false, nat_lt, None, Some, is_some, IfSome};
+ghost use Rattle.trail_text.specs.Trails.{IsFresh, IsKept, IsBehind, is_held, skipped_of, is_unseen};
+
 use crate::entry::{Entry, Event, next_entry};
 use crate::quiet::is_of_spin;
 use crate::scan::Lines;
@@ -24,7 +27,10 @@ pub struct Trail<'t> {
 
 impl<'t> Trail<'t> {
     /// From its beginning.
-    pub fn new(text: &'t [u8]) -> Trail<'t> {
+    pub fn new(text: &'t [u8]) -> Trail<'t>
+        ensures text { result.lines.rest.now ≡ text.now }
+        ensures fresh { IsFresh result }
+    {
         Trail {
             lines: Lines::new(text),
             quiet: 0,
@@ -37,14 +43,21 @@ impl<'t> Trail<'t> {
     }
 
     // Whether a line is one more of the step that was taken last.
-    fn is_held(&self, entry: &Entry<'t>) -> bool {
-        self.held == Some((entry.process, entry.step))
+    fn is_held(&self, entry: &Entry<'t>) -> bool
+        ensures { result ≡ is_held self.now.held entry.now }
+    {
+        match self.held {
+            Some((process, step)) => process == entry.process && step == entry.step,
+            None => false,
+        }
     }
 
     /// The next line that is still to be followed, without a step.
-    pub fn next(&self) -> Option<Entry<'t>> {
+    pub fn next(&self) -> Option<Entry<'t>>
+        ensures { IfSome result (λ entry. is_held self.now.held entry ≡ false) }
+    {
         let mut ahead = *self;
-        for _ in 0..u64::MAX {
+        for _turn in 0..u64::MAX {
             let Some(entry) = next_entry(&mut ahead.lines) else {
                 return None;
             };
@@ -56,7 +69,10 @@ impl<'t> Trail<'t> {
     }
 
     /// Goes behind the next line, which is no step here.
-    pub fn pass_over(&mut self) {
+    pub fn pass_over(&mut self)
+        ensures counts { self.new.counts ≡ self.old.counts }
+        ensures valued { is_some self.old.valued ≡ true → self.new.valued ≡ self.old.valued }
+    {
         let Some(entry) = self.pass() else {
             return;
         };
@@ -69,7 +85,9 @@ impl<'t> Trail<'t> {
     }
 
     /// The line of an `else` of this process that was passed over, where the process took no line since then.
-    pub fn skipped_of(&self, process: usize) -> Option<usize> {
+    pub fn skipped_of(&self, process: usize) -> Option<usize>
+        ensures { result ≡ skipped_of self.now.skipped process }
+    {
         match self.skipped {
             Some((other, row)) if other == process => Some(row),
             _ => None,
@@ -77,8 +95,12 @@ impl<'t> Trail<'t> {
     }
 
     /// Goes behind the next line.
-    pub fn pass(&mut self) -> Option<Entry<'t>> {
-        for _ in 0..u64::MAX {
+    pub fn pass(&mut self) -> Option<Entry<'t>>
+        ensures kept { IsKept self.old self.new }
+        ensures shown { IfSome result (λ entry. is_held self.old.held entry ≡ false) }
+        ensures behind { IfSome result (IsBehind self.new) }
+    {
+        for _turn in 0..u64::MAX {
             let Some(entry) = next_entry(&mut self.lines) else {
                 return None;
             };
@@ -94,11 +116,28 @@ impl<'t> Trail<'t> {
     }
 
     /// The statement that follows the next line, where it may be the other half of a rendezvous.
-    pub fn second(&self) -> Option<Entry<'t>> {
+    pub fn second(&self) -> Option<Entry<'t>>
+        ensures { IfSome result (λ entry. is_unseen entry.event ≡ false) }
+    {
         let mut ahead = *self;
         ahead.pass()?;
-        for _ in 0..u64::MAX {
-            let Some(entry) = ahead.pass() else {
+        ahead.pass_seen()
+    }
+
+    /// Goes behind the other half.
+    pub fn pass_second(&mut self)
+        ensures { IsKept self.old self.new }
+    {
+        let _ = self.pass_seen();
+    }
+
+    // Goes behind the next line of a statement that the machine has.
+    fn pass_seen(&mut self) -> Option<Entry<'t>>
+        ensures kept { IsKept self.old self.new }
+        ensures seen { IfSome result (λ entry. is_unseen entry.event ≡ false) }
+    {
+        for _turn in 0..u64::MAX {
+            let Some(entry) = self.pass() else {
                 return None;
             };
             match entry.event {
@@ -109,33 +148,28 @@ impl<'t> Trail<'t> {
         None
     }
 
-    /// Goes behind the other half.
-    pub fn pass_second(&mut self) {
-        for _ in 0..u64::MAX {
-            let Some(entry) = self.pass() else {
-                return;
-            };
-            match entry.event {
-                Event::Statement(_, text) if is_of_spin(text) => {}
-                _ => return,
-            }
-        }
-    }
-
     // A line of this process is followed.
-    fn forget_skipped(&mut self, process: usize) {
+    fn forget_skipped(&mut self, process: usize)
+        ensures kept { self.new ≡ record self.old { skipped = self.new.skipped } }
+        ensures forgotten { skipped_of self.new.skipped process ≡ None }
+    {
         if self.skipped_of(process).is_some() {
             self.skipped = None;
         }
     }
 
     /// The lines with the number of the last one belong to the same step.
-    pub fn hold(&mut self) {
+    pub fn hold(&mut self)
+        ensures { self.new ≡ record self.old { held = self.old.last } }
+    {
         self.held = self.last;
     }
 
     /// It is to count up so often. Where that is not at all, the trail goes on behind the line.
-    pub fn count(&mut self, counts: usize) {
+    pub fn count(&mut self, counts: usize)
+        ensures counts { self.new.counts ≡ counts }
+        ensures stays { 0 < counts → self.new ≡ record self.old { counts = counts } }
+    {
         self.counts = counts;
         if counts == 0 {
             let _ = self.pass();
@@ -143,7 +177,11 @@ impl<'t> Trail<'t> {
     }
 
     /// A step is taken that the trail does not show. Whether that may be: it is so many times in a row.
-    pub fn keep_quiet(&mut self) -> bool {
+    pub fn keep_quiet(&mut self) -> bool
+        ensures may { result ≡ nat_lt self.old.quiet 100 }
+        ensures counted { result ≡ true → self.new ≡ record self.old { quiet = self.old.quiet + 1 } }
+        ensures stays { result ≡ false → self.new ≡ self.old }
+    {
         if self.quiet >= MOST_QUIET {
             return false;
         }
