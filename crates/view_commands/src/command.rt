@@ -2,7 +2,7 @@
 
 ghost use Rattle.std.specs.Prelude.{◌≡◌};
 ghost use Rattle.std.specs.List.{list_all};
-ghost use Rattle.view_commands.specs.Lines.{is_digit, IsUnknown, IsRead};
+ghost use Rattle.view_commands.specs.Lines.{is_digit, IsUnnamed, IsRead};
 
 use crate::forms::{behind, with_words};
 use crate::names::name_of;
@@ -87,7 +87,7 @@ fn is_number(word: &str) -> bool
 
 // A word that is no command: where another program has it, what there is in its place.
 fn unknown<'l>(word: &str) -> Command<'l>
-    ensures { IsUnknown result }
+    ensures { IsUnnamed word.now result }
 {
     match told_of(word) {
         Some(words) => Command::Wrong(words),

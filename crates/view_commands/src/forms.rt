@@ -1,7 +1,8 @@
 //! What stands behind the name of a command.
 
-ghost use Rattle.std.specs.Prelude.{◌≡◌, ℕ, true, false, map, drop, None, Some, IfSome};
+ghost use Rattle.std.specs.Prelude.{◌≡◌, ◌<◌, length, ℕ, true, false, map, drop, None, Some, IfSome};
 ghost use Rattle.view_commands.specs.Forms.{IsNumber, IsOneNumber, IsWanted, IsWrong, IsByNumber, IsByText, IsByWord, IsMoves, IsCountAndSeed, IsByChance, IsUntilByChance, usual, numbered, with_text, is_until, is_all, behind_all, alone, shows, helps, IsBehind, form_of, bare, telling, IsMeant};
+ghost use Rattle.view_commands.specs.Names.{long_name, begins};
 ghost use Rattle.view_commands.specs.declared.command.Command.TheVariants.{Show};
 ghost use Rattle.view_commands.specs.declared.names.Name.TheVariants.{Process};
 
@@ -139,7 +140,9 @@ fn telling<'l>(name: Name, all: bool) -> Command<'l>
 }
 
 // How a command is written that has other words behind its name than it wants.
-fn written(name: Name) -> &'static str {
+fn written(name: Name) -> &'static str
+    ensures { 0 < length result.now → begins result.now (long_name name) ≡ true }
+{
     match name {
         Name::Back => "back [N], back until COND\n",
         Name::Forward => "forward [N]\n",

@@ -2,6 +2,8 @@
 
 ghost use Rattle.std.specs.Prelude.{◌≡◌, ◌⊎◌, true, IfSome};
 ghost use Rattle.view_commands.specs.Names.{long_name, short_name, begins, IsNamed};
+ghost use Rattle.view_commands.specs.Named.{is_name, is_begun, only, named, begun, name_of};
+ghost use Rattle.std.specs.List.{filter, find};
 
 use crate::others::told_of;
 
@@ -125,16 +127,26 @@ fn short_name(name: Name) -> &'static str
     }
 }
 
-// The command with this name, whole or short.
-fn named(word: &str) -> Option<Name>
-    ensures { IfSome result (λ n. (word.now ≡ long_name n) ⊎ (word.now ≡ short_name n)) }
+// The first of these commands with this name, whole or short.
+fn named_in(names: &[Name], word: &str) -> Option<Name>
+    ensures name { IfSome result (λ n. (word.now ≡ long_name n) ⊎ (word.now ≡ short_name n)) }
+    ensures found { result ≡ find (is_name word.now) names.now }
 {
-    for name in NAMES {
-        if word == long_name(name) || word == short_name(name) {
-            return Some(name);
+    for name in names {
+        if word == long_name(*name) || word == short_name(*name) {
+            return Some(*name);
         }
     }
     None
+}
+
+// The command with this name, whole or short.
+#[tactic(auto, unfolding(crate::specs::Named::named))]
+fn named(word: &str) -> Option<Name>
+    ensures name { IfSome result (λ n. (word.now ≡ long_name n) ⊎ (word.now ≡ short_name n)) }
+    ensures found { result ≡ named word.now }
+{
+    named_in(&NAMES, word)
 }
 
 // Whether a name begins so.
@@ -144,25 +156,37 @@ fn begins(name: &str, word: &str) -> bool
     name.as_bytes().starts_with(word.as_bytes())
 }
 
-// The one command whose name begins so.
-fn begun(word: &str) -> Option<Name>
-    ensures { IfSome result (λ n. begins (long_name n) word.now ≡ true) }
+// The one of these commands whose name begins so.
+fn begun_in(names: &[Name], word: &str) -> Option<Name>
+    ensures name { IfSome result (λ n. begins (long_name n) word.now ≡ true) }
+    ensures found { result ≡ only (filter (is_begun word.now) names.now) }
 {
     let mut found = None;
-    for name in NAMES {
-        if begins(long_name(name), word) {
+    for name in names {
+        if begins(long_name(*name), word) {
             if found.is_some() {
                 return None;
             }
-            found = Some(name);
+            found = Some(*name);
         }
     }
     found
 }
 
+// The one command whose name begins so.
+#[tactic(auto, unfolding(crate::specs::Named::begun))]
+fn begun(word: &str) -> Option<Name>
+    ensures name { IfSome result (λ n. begins (long_name n) word.now ≡ true) }
+    ensures found { result ≡ begun word.now }
+{
+    begun_in(&NAMES, word)
+}
+
 /// The command that a word names: whole, short, or by a beginning that no other has, and that is no word of another program.
+#[tactic(auto, unfolding(crate::specs::Named::name_of))]
 pub fn name_of(word: &str) -> Option<Name>
-    ensures { IfSome result (IsNamed word.now) }
+    ensures name { IfSome result (IsNamed word.now) }
+    ensures found { result ≡ name_of word.now }
 {
     match word {
         "?" => return Some(Name::Help),

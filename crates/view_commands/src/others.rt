@@ -1,5 +1,9 @@
 //! Words that other programs have for what a session does.
 
+ghost use Rattle.std.specs.Prelude.{◌≡◌, map};
+ghost use Rattle.std.specs.Option.{option_map};
+ghost use Rattle.view_commands.specs.Others.{told, told_in};
+
 // What is told of each.
 const OTHERS: [(&str, &str); 58] = [
     (
@@ -97,12 +101,22 @@ const MOVES: &str = "no such command: moves shows the choices, and the number of
 
 const PAST: &str = "no such command: steps shows the steps so far, chart their messages\n";
 
-/// What there is in place of a word that another program has.
-pub fn told_of(word: &str) -> Option<&'static str> {
-    for (other, told) in OTHERS {
-        if word == other {
-            return Some(told);
+// What there is in place of a word, by a table.
+fn told_in(others: &[(&'static str, &'static str)], word: &str) -> Option<&'static str>
+    ensures { option_map (λ t. t.now) result ≡ told_in (map (λ o. (o.0.now, o.1.now)) others.now) word.now }
+{
+    for (other, told) in others {
+        if word == *other {
+            return Some(*told);
         }
     }
     None
+}
+
+/// What there is in place of a word that another program has.
+#[tactic(auto, unfolding(crate::specs::Others::told))]
+pub fn told_of(word: &str) -> Option<&'static str>
+    ensures { option_map (λ t. t.now) result ≡ told word.now }
+{
+    told_in(&OTHERS, word)
 }
