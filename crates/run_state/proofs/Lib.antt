@@ -7,3 +7,5 @@ pub mod Holding
 pub mod Stored
 pub mod Creating
 pub mod Counting
+pub mod Coding
+pub mod Fitting

@@ -1,0 +1,28 @@
+-- What flat code finds in a state, and what it leaves.
+use Rattle.std.specs.Prelude.{◌≡◌, ℕ, ℤ, Bool, Some, Result, Ok, slice_get}
+use Rattle.diagnostics.specs.declared.stop.Stop.{Stop}
+use Rattle.pml_program.specs.declared.form.Form.{Form}
+use Rattle.promela_process.specs.declared.place.Place.{Place}
+use Rattle.promela_process.specs.Numbers.{clipped}
+use Rattle.pml_store.specs.Writing.{HasPlace, index_of}
+use Rattle.pml_program.specs.declared.program.Action.{Action}
+use Rattle.promela_run.specs.Moves.{can}
+use Rattle.promela_run.specs.State.{Stand, State, reads, variables_at}
+use Rattle.promela_run.specs.Steps.{put}
+use Rattle.flat_code.specs.Flat.{Fits}
+use Rattle.run_state.specs.Live.{Leads}
+
+-- the place at an index has what a type keeps of a number
+abbrev pub PutsAt : State → ℕ → Form → ℤ → Result (Unit {0}) Stop → State → Type 0
+PutsAt s at form n result new = (p : Place) → HasPlace s.frames p → index_of s.frames p ≡ at
+    → Leads (Ok (put s (record { place = p; number = clipped form n }))) result new
+
+-- the frames of the globals and of a process are as they are declared
+pub record FitsIn (s : State) (process : ℕ) : Type 0 where
+  pub stand : Stand
+  pub at : slice_get s.stands process ≡ Some stand
+  pub fits : Fits s.program.globals (variables_at s.program stand.sort) s.frames process
+
+-- it is whether a statement of a process can be taken by itself, in a d_step or not, under either `timeout`
+abbrev pub AnswersCan : State → ℕ → Action → Bool → Type 0
+AnswersCan s process x b = (timeout in_d_step : Bool) → b ≡ can s.lossy s.channels (reads s process timeout) in_d_step x
