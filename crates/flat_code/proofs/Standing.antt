@@ -1,5 +1,5 @@
 -- What flat code stands for.
-use Rattle.std.proofs.Common.{◌≡◌, ℕ, ◌+◌, ◌<◌, Bool, true, false, not, if◌then◌else◌, ◌&&◌, List, [], length, get_or, map, take, sum, ℤ, pos, Some, None, Result, Ok, Err, refl, sym, ap, subst, ◌∙◌, arith, option_map}
+use Rattle.std.proofs.Common.{◌≡◌, ℕ, ◌+◌, ◌<◌, Bool, true, false, not, if◌then◌else◌, ◌&&◌, List, [], length, get_or, map, take, sum, ℤ, pos, Some, None, Result, Ok, Err, negsuc, ◌+ℤ◌, refl, sym, ap, subst, ◌∙◌, arith, option_map}
 use Rattle.std.specs.Prelude.{unwrap_or}
 use Rattle.std.proofs.Math.ListN.{get_or-map}
 use Rattle.diagnostics.specs.declared.fault.Fault.{Fault}
@@ -8,25 +8,32 @@ use Rattle.pml_tree.specs.declared.tree.Infix.TheVariants as op
 use Rattle.pml_program.specs.declared.expr.Expr.{Expr, Expr-F, fold-roll-Expr}
 use Rattle.pml_program.specs.declared.expr.Expr.TheVariants as e
 use Rattle.pml_program.specs.declared.expr.Target.{Target, out-Target}
-use Rattle.pml_program.specs.declared.program.Action.TheVariants.{Assign, Holds}
+use Rattle.pml_program.specs.declared.form.Form.{Form}
+use Rattle.pml_program.specs.declared.form.Form.TheVariants.{Plain as Kept}
+use Rattle.pml_tree.specs.declared.tree.Scalar.{Scalar}
+use Rattle.pml_program.specs.declared.program.Action.{Action}
+use Rattle.pml_program.specs.declared.program.Action.TheVariants.{Assign, Decrement, Holds, Increment}
 use Rattle.pml_program.specs.declared.program.Slot.{Slot}
 use Rattle.promela_process.specs.declared.place.Place.{Place}
-use Rattle.promela_process.specs.Store.{Frame, frame_at, size_at}
-use Rattle.promela_process.specs.Numbers.{clipped, decided, infixed, is_zero, truth}
+use Rattle.promela_process.specs.Store.{Frame, frame_at, number_at, size_at}
+use Rattle.promela_process.specs.Numbers.{clipped, decided, infixed, is_zero, truth_number, wrapped}
 use Rattle.promela_process.specs.Expressions.{Reading, Valued, Wanted, Placed, Turned, val, place, value_step, want_step, target_step, turn_step, ◌>>=◌}
+use Rattle.promela_run.specs.declared.live_channel.LiveChannel.{LiveChannel}
+use Rattle.promela_run.specs.Moves.{ready}
 use Rattle.promela_run.specs.declared.goes.Goes.{Goes}
 use Rattle.promela_run.specs.State.{size, reading_of}
-use Rattle.promela_run.specs.Statements.{goes_to}
+use Rattle.promela_run.specs.Statements.{goes_to, increased, outcome}
 use Rattle.pml_store.specs.Writing.{flat, joined}
 use Rattle.pml_store.proofs.Back.{has_cell}
 use Rattle.flat_code.specs.declared.code.Cell.{Cell}
 use Rattle.flat_code.specs.declared.code.Cell.TheVariants.{Global, Local}
 use Rattle.flat_code.specs.declared.code.Operand.{Operand}
-use Rattle.flat_code.specs.declared.code.Operand.TheVariants.{Held}
+use Rattle.flat_code.specs.declared.code.Operand.TheVariants as operand
 use Rattle.flat_code.specs.declared.code.Worth.{Worth}
 use Rattle.flat_code.specs.declared.code.Worth.TheVariants.{Plain, Pair}
+use Rattle.flat_code.specs.declared.code.Code.{Code}
 use Rattle.flat_code.specs.declared.code.Code.TheVariants.{Set, Ask}
-use Rattle.flat_code.specs.Flat.{number, worth, cells_in, start, base_of, IsPlain, IsCell, IsOperand, IsWorth, IsCode}
+use Rattle.flat_code.specs.Flat.{index, number, held, worth, cells_in, start, base_of, IsIn, Leads, IsPlain, IsCell, IsOperand, IsWorth, IsKept, IsCode, IsCounted}
 use Rattle.flat_code.proofs.Laying.{flat_length, index-within, index-holds}
 
 -- ---- a cell
@@ -93,11 +100,11 @@ binary-is o a b r =
 abbrev Decides : Infix → ℤ → ℤ → Type 0
 Decides o x y = unwrap_or (option_map Ok (decided o x)) (infixed o x y) ≡ infixed o x y
 
-and-decides : (z w : Bool) → (let given : Result ℤ Fault = Ok (truth (not z && not w)) in unwrap_or (option_map Ok (if z then Some (pos 0) else None)) given ≡ given)
+and-decides : (z w : Bool) → (let given : Result ℤ Fault = Ok (truth_number (not z && not w)) in unwrap_or (option_map Ok (if z then Some (pos 0) else None)) given ≡ given)
 and-decides true w = refl
 and-decides false w = refl
 
-or-decides : (z w : Bool) → (let given : Result ℤ Fault = Ok (truth (not (z && w))) in unwrap_or (option_map Ok (if z then None else Some (pos 1))) given ≡ given)
+or-decides : (z w : Bool) → (let given : Result ℤ Fault = Ok (truth_number (not (z && w))) in unwrap_or (option_map Ok (if z then None else Some (pos 1))) given ≡ given)
 or-decides true w = refl
 or-decides false w = refl
 
@@ -106,15 +113,30 @@ decides op.And x y = and-decides (is_zero x) (is_zero y)
 decides op.Or x y = or-decides (is_zero x) (is_zero y)
 decides _ x y = refl
 
-pub held : (gs ls : List Slot) (t : Target) (c : Cell) → IsCell gs ls t c → IsOperand gs ls (e.Read t) (Held c)
-held gs ls t c is frames cs process count timeout fits =
+-- what a cell holds is a number of its place
+number-held : (cells : List ℤ) (base : ℕ) (c : Cell) → number cells base (held c) ≡ get_or cells (index base c) (pos 0)
+number-held cells base (Global i) = refl
+number-held cells base (Local i) = refl
+
+in-held : (cells : List ℤ) (base : ℕ) (c : Cell) → index base c < length cells → IsIn cells base (held c)
+in-held cells base (Global i) h = h
+in-held cells base (Local i) h = h
+
+module _ (frames : List Frame) (base : ℕ) (r : Reading) (t : Target) (c : Cell) (l : Leads frames base r t c) where
+  held-there : number (joined frames) base (held c) ≡ number_at frames l.at
+  held-there = number-held (joined frames) base c ∙ ap (λ (n : ℕ). get_or (joined frames) n (pos 0)) (sym l.stands) ∙ index-holds frames l.at l.there
+
+  held-within : IsIn (joined frames) base (held c)
+  held-within = in-held (joined frames) base c (subst (λ (n : ℕ). n < length (joined frames)) l.stands (index-within frames l.at l.there))
+
+pub read : (gs ls : List Slot) (t : Target) (c : Cell) → IsCell gs ls t c → IsOperand gs ls (e.Read t) (held c)
+read gs ls t c is frames cs process count timeout fits =
     let r : Reading = reading_of frames cs process count timeout in
     let l = is frames cs process count timeout fits in
-    let w = index-within frames l.at l.there in
     record {
       value = read-is t r ∙ ap (λ (o : Result Place Fault). o >>= λ p. Ok (r.holds p)) l.leads
-          ∙ ap Ok (sym (index-holds frames l.at l.there) ∙ ap (λ (n : ℕ). get_or (joined frames) n (pos 0)) l.stands);
-      within = subst (λ (n : ℕ). n < length (joined frames)) l.stands w;
+          ∙ ap Ok (sym (held-there frames (base_of frames process) r t c l));
+      within = held-within frames (base_of frames process) r t c l;
     }
 
 pub plain : (gs ls : List Slot) (x : Expr) (a : Operand) → IsOperand gs ls x a → IsWorth gs ls x (Plain a)
@@ -145,19 +167,56 @@ goes-there : (t : Target) (r : Reading) (p : Place) (o : Result ℤ Fault) → p
 goes-there t r p (Err f) h = refl
 goes-there t r p (Ok n) h = ap (λ (q : Result Place Fault). q >>= (λ p. let g : Goes = record { place = p; number = clipped (out-Target t).form n } in Ok g) >>= λ g. Ok (Some g)) h
 
-pub sets : (gs ls : List Slot) (t : Target) (x : Expr) (c : Cell) (v : Worth) → IsCell gs ls t c → IsWorth gs ls x v → IsCode gs ls (Assign (Some t) x) (Set c (out-Target t).form v)
-sets gs ls t x c v is comes frames cs process count timeout fits =
+kept-there : (t : Target) (word : Scalar) (r : Reading) (p : Place) (o : Result ℤ Fault) → (out-Target t).form ≡ Kept word → place t r ≡ Ok p
+    → (o >>= λ n. goes_to (Some t) n r) ≡ (o >>= λ n. Ok (Some (record { place = p; number = clipped (Kept word) n })))
+kept-there t word r p o f h = goes-there t r p o h ∙ ap (λ (form : Form). o >>= λ n. Ok (Some (record { place = p; number = clipped form n }))) f
+
+pub sets : (gs ls : List Slot) (t : Target) (x : Expr) (word : Scalar) (c : Cell) (v : Worth) → IsKept gs ls t word c → IsWorth gs ls x v → IsCode gs ls (Assign (Some t) x) (Set word c v)
+sets gs ls t x word c v is comes frames cs process count timeout fits =
     let r : Reading = reading_of frames cs process count timeout in
-    let l = is frames cs process count timeout fits in
+    let l = is.1 frames cs process count timeout fits in
     let g = comes frames cs process count timeout fits in
     record {
       at = l.at;
       there = l.there;
       stands = l.stands;
       within = g.within;
-      does = ap (λ (o : Result ℤ Fault). o >>= λ n. goes_to (Some t) n r) g.value ∙ goes-there t r l.at (worth (joined frames) (base_of frames process) v) l.leads;
+      does = ap (λ (o : Result ℤ Fault). o >>= λ n. goes_to (Some t) n r) g.value ∙ kept-there t word r l.at (worth (joined frames) (base_of frames process) v) is.0 l.leads;
       free = λ lossy ds in_d_step. refl;
     }
+
+-- what is stored of a variable's number and this
+increased-is : (t : Target) (by : ℤ) (r : Reading) (p : Place) → place t r ≡ Ok p → increased t by r ≡ goes_to (Some t) (wrapped (r.holds p +ℤ by)) r
+increased-is t by r p h = ap (λ (o : Result Place Fault). o >>= λ p. goes_to (Some t) (wrapped (r.holds p +ℤ by)) r) h
+
+pub counts : (gs ls : List Slot) (t : Target) (by : ℤ) (word : Scalar) (c : Cell) → IsKept gs ls t word c → IsCounted gs ls t by (Set word c (Pair op.Plus (held c) (operand.Number by)))
+counts gs ls t by word c is x adds free frames cs process count timeout fits =
+    let r : Reading = reading_of frames cs process count timeout in
+    let l = is.1 frames cs process count timeout fits in
+    let base = base_of frames process in
+    let n = held-there frames base r t c l in
+    record {
+      at = l.at;
+      there = l.there;
+      stands = l.stands;
+      within = (held-within frames base r t c l, tt);
+      does = adds r ∙ increased-is t by r l.at l.leads
+          ∙ ap (λ (n : ℤ). goes_to (Some t) (wrapped (n +ℤ by)) r) (sym n)
+          ∙ kept-there t word r l.at (Ok (wrapped (number (joined frames) base (held c) +ℤ by))) is.0 l.leads;
+      free = λ lossy ds in_d_step. free lossy ds r in_d_step;
+    }
+
+pub adds-one : (t : Target) (r : Reading) → outcome (Increment t) r ≡ increased t (pos 1) r
+adds-one t r = refl
+
+pub takes-one : (t : Target) (r : Reading) → outcome (Decrement t) r ≡ increased t (negsuc 0) r
+takes-one t r = refl
+
+pub counts_up : (gs ls : List Slot) (t : Target) (code : Code) → IsCounted gs ls t (pos 1) code → IsCode gs ls (Increment t) code
+counts_up gs ls t code is = is (Increment t) (adds-one t) (λ lossy cs r d. refl)
+
+pub counts_down : (gs ls : List Slot) (t : Target) (code : Code) → IsCounted gs ls t (negsuc 0) code → IsCode gs ls (Decrement t) code
+counts_down gs ls t code is = is (Decrement t) (takes-one t) (λ lossy cs r d. refl)
 
 pub asks : (gs ls : List Slot) (x : Expr) (v : Worth) → IsWorth gs ls x v → IsCode gs ls (Holds x) (Ask v)
 asks gs ls x v comes frames cs process count timeout fits =

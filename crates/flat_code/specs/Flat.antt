@@ -3,7 +3,8 @@ use Rattle.std.specs.Prelude.{◌≡◌, ℕ, ◌+◌, ◌<◌, Bool, not, true,
 use Rattle.diagnostics.specs.declared.fault.Fault.{Fault}
 use Rattle.pml_program.specs.declared.expr.Expr.{Expr}
 use Rattle.pml_program.specs.declared.expr.Target.{Target, out-Target}
-use Rattle.pml_program.specs.declared.form.Form.{Form}
+use Rattle.pml_program.specs.declared.form.Form.TheVariants.{Plain as Kept}
+use Rattle.pml_tree.specs.declared.tree.Scalar.{Scalar}
 use Rattle.pml_program.specs.declared.program.Action.{Action}
 use Rattle.pml_program.specs.declared.program.Action.TheVariants.{Assign}
 use Rattle.pml_program.specs.declared.program.Basic.{Basic, Plain as Statement}
@@ -15,12 +16,12 @@ use Rattle.promela_process.specs.Expressions.{Reading, val, place, ◌>>=◌}
 use Rattle.pml_store.specs.Writing.{HasPlace, joined, index_of}
 use Rattle.promela_run.specs.declared.live_channel.LiveChannel.{LiveChannel}
 use Rattle.promela_run.specs.State.{size, reading_of}
-use Rattle.promela_run.specs.Statements.{outcome}
+use Rattle.promela_run.specs.Statements.{increased, outcome}
 use Rattle.promela_run.specs.Moves.{ready}
 use Rattle.flat_code.specs.declared.code.Cell.{Cell}
 use Rattle.flat_code.specs.declared.code.Cell.TheVariants.{Global, Local}
 use Rattle.flat_code.specs.declared.code.Operand.{Operand}
-use Rattle.flat_code.specs.declared.code.Operand.TheVariants.{Number, Held}
+use Rattle.flat_code.specs.declared.code.Operand.TheVariants as operand
 use Rattle.flat_code.specs.declared.code.Worth.{Worth}
 use Rattle.flat_code.specs.declared.code.Worth.TheVariants.{Plain, Pair}
 use Rattle.flat_code.specs.declared.code.Code.{Code}
@@ -35,8 +36,14 @@ index base (Local at) = base + at
 
 -- what an operand is worth
 abbrev pub number : List ℤ → ℕ → Operand → ℤ
-number cells base (Number n) = n
-number cells base (Held c) = slice_index_or cells (index base c) (pos 0)
+number cells base (operand.Number n) = n
+number cells base (operand.Global at) = slice_index_or cells at (pos 0)
+number cells base (operand.Local at) = slice_index_or cells (base + at) (pos 0)
+
+-- what a cell holds
+abbrev pub held : Cell → Operand
+held (Global at) = operand.Global at
+held (Local at) = operand.Local at
 
 abbrev pub worth : List ℤ → ℕ → Worth → Result ℤ Fault
 worth cells base (Plain a) = Ok (number cells base a)
@@ -44,8 +51,9 @@ worth cells base (Pair op a b) = infixed op (number cells base a) (number cells 
 
 -- the cells are there
 abbrev pub IsIn : List ℤ → ℕ → Operand → Type 0
-IsIn cells base (Number n) = Unit {0}
-IsIn cells base (Held c) = index base c < length cells
+IsIn cells base (operand.Number n) = Unit {0}
+IsIn cells base (operand.Global at) = at < length cells
+IsIn cells base (operand.Local at) = base + at < length cells
 
 abbrev pub AreIn : List ℤ → ℕ → Worth → Type 0
 AreIn cells base (Plain a) = IsIn cells base a
@@ -106,12 +114,12 @@ abbrev pub IsWorth : List Slot → List Slot → Expr → Worth → Type 0
 IsWorth gs ls e v = Always gs ls (λ frames base r. Comes frames base r e v)
 
 -- a statement stores what is kept of a number, and waits for nothing
-pub record Stores (frames : List Frame) (base : ℕ) (r : Reading) (x : Action) (c : Cell) (form : Form) (v : Worth) : Type 0 where
+pub record Stores (frames : List Frame) (base : ℕ) (r : Reading) (x : Action) (word : Scalar) (c : Cell) (v : Worth) : Type 0 where
   pub at : Place
   pub there : HasPlace frames at
   pub stands : index_of frames at ≡ index base c
   pub within : AreIn (joined frames) base v
-  pub does : outcome x r ≡ (worth (joined frames) base v >>= λ n. Ok (Some (record { place = at; number = clipped form n })))
+  pub does : outcome x r ≡ (worth (joined frames) base v >>= λ n. Ok (Some (record { place = at; number = clipped (Kept word) n })))
   pub free : (lossy : Bool) (cs : List LiveChannel) (in_d_step : Bool) → ready lossy cs r in_d_step x ≡ Ok true
 
 -- a statement asks whether a number is not 0
@@ -123,12 +131,21 @@ pub record Asks (frames : List Frame) (base : ℕ) (r : Reading) (x : Action) (v
 -- the code of a statement without a structure
 abbrev pub IsCode : List Slot → List Slot → Action → Code → Type 0
 IsCode gs ls x No = Unit {0}
-IsCode gs ls x (Set c form v) = Always gs ls (λ frames base r. Stores frames base r x c form v)
+IsCode gs ls x (Set word c v) = Always gs ls (λ frames base r. Stores frames base r x word c v)
 IsCode gs ls x (Ask v) = Always gs ls (λ frames base r. Asks frames base r x v)
+
+-- a target keeps this word of a number, in this cell
+abbrev pub IsKept : List Slot → List Slot → Target → Scalar → Cell → Type 0
+IsKept gs ls t word c = ((out-Target t).form ≡ Kept word) × IsCell gs ls t c
 
 -- the code of an assignment to a variable
 abbrev pub IsSet : List Slot → List Slot → Target → Expr → Code → Type 0
 IsSet gs ls t e code = IsCode gs ls (Assign (Some t) e) code
+
+-- the code of what adds this to a variable, and waits for nothing
+abbrev pub IsCounted : List Slot → List Slot → Target → ℤ → Code → Type 0
+IsCounted gs ls t by code = (x : Action) → ((r : Reading) → outcome x r ≡ increased t by r)
+    → ((lossy : Bool) (cs : List LiveChannel) (r : Reading) (in_d_step : Bool) → ready lossy cs r in_d_step x ≡ Ok true) → IsCode gs ls x code
 
 -- the code of a statement: one that gives a structure, and a place where none is, has none
 abbrev pub IsCodeOf : List Slot → List Slot → Option Basic → Code → Type 0

@@ -1,20 +1,20 @@
-//! Flat code.
+//! Flat code: what a plain statement does, in cells.
 
-use pml_program::form::Form;
-use pml_tree::tree::Infix;
+use pml_tree::tree::{Infix, Scalar};
 
-/// A cell: of a global by its index among all, of a local by how far it is from the first of its process.
+/// A cell: by its index among all, or counted from the first of its process.
 #[derive(Clone, Copy, Debug, PartialEq, Eq)]
 pub enum Cell {
-    Global(u32),
-    Local(u32),
+    Global(u16),
+    Local(u16),
 }
 
-/// A number, or what a cell holds.
+/// A number, or what such a cell holds.
 #[derive(Clone, Copy, Debug, PartialEq, Eq)]
 pub enum Operand {
-    Number(i32),
-    Held(Cell),
+    Number(i16),
+    Global(u16),
+    Local(u16),
 }
 
 /// An operand, or two with an operator between them.
@@ -24,10 +24,14 @@ pub enum Worth {
     Pair(Infix, Operand, Operand),
 }
 
-/// What a statement does: it stores what a type keeps of a number, or asks whether one is not 0. `No` says nothing of it.
+/// What a statement does: it stores what a type keeps of a number, or asks whether one is not 0. `No` says nothing of
+/// it.
 #[derive(Clone, Copy, Debug, PartialEq, Eq)]
 pub enum Code {
     No,
-    Set(Cell, Form, Worth),
+    Set(Scalar, Cell, Worth),
     Ask(Worth),
 }
+
+// A model may have as many of them as a text of 1 MB has statements.
+const _: () = prove!(size_of::<Code>() == 16);

@@ -1,7 +1,7 @@
 //! The flat codes of a body's statements, by their numbers.
 
-ghost use Rattle.std.specs.Prelude.{◌≡◌, ◌++◌, ◌∷◌, [], IfOk, OnOk, slice_index_or};
-ghost use Rattle.flat_code.specs.declared.code.Code.TheVariants.{No};
+ghost use Rattle.std.specs.Prelude.{◌≡◌, ◌++◌, ◌∷◌, [], IfOk, OnOk, slice_get};
+ghost use Rattle.std.specs.Option.{option_copied};
 
 use crate::code::Code;
 use std::alloc::{AllocError, Global};
@@ -42,12 +42,9 @@ impl Codes {
 
     /// The code with this number.
     #[inline(always)]
-    pub fn get(&self, number: usize) -> Code
-        ensures { result ≡ slice_index_or self.now number No }
+    pub fn get(&self, number: usize) -> Option<&Code>
+        ensures { option_copied result ≡ slice_get self.now number }
     {
-        match self.list.get(number) {
-            Some(code) => *code,
-            None => Code::No,
-        }
+        self.list.get(number)
     }
 }

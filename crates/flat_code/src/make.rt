@@ -1,13 +1,16 @@
 //! Flat code of statements, made once.
 
-ghost use Rattle.std.specs.Prelude.{◌≡◌, ◌<◌, IfSome, Ok};
+ghost use Rattle.std.specs.Prelude.{◌≡◌, IfSome};
 ghost use Rattle.std.specs.Option.{option_copied};
-ghost use Rattle.flat_code.specs.Flat.{IsPlain, IsCell, IsOperand, IsWorth, IsCode, IsCodeOf, IsSet};
+ghost use Rattle.flat_code.specs.declared.code.Operand.TheVariants.{Number};
+ghost use Rattle.flat_code.specs.Flat.{held, IsPlain, IsCell, IsOperand, IsWorth, IsKept, IsCode, IsCodeOf, IsCounted, IsSet};
 
 use crate::code::{Cell, Code, Operand, Worth};
 use crate::owner::Owner;
 use pml_program::expr::{Expr, Target};
+use pml_program::form::Form;
 use pml_program::program::{Action, Basic};
+use pml_tree::tree::{Infix, Scalar};
 
 /// The cell of its variable at which a target without an index lies.
 fn plain(target: &Target) -> Option<usize>
@@ -38,14 +41,35 @@ fn cell_of(globals: &Owner<'_, '_>, locals: &Owner<'_, '_>, target: &Target) -> 
     }
 }
 
-/// A number or a variable.
+/// What a cell holds.
+fn held(cell: Cell) -> Operand
+    ensures { result ≡ held cell }
+{
+    match cell {
+        Cell::Global(at) => Operand::Global(at),
+        Cell::Local(at) => Operand::Local(at),
+    }
+}
+
+/// A number that is small.
+fn small(number: i32) -> Option<Operand>
+    ensures { IfSome result (λ a. a ≡ Number number) }
+{
+    if -32_768 <= number && number < 32_768 {
+        Some(Operand::Number(number as i16))
+    } else {
+        None
+    }
+}
+
+/// A small number or a variable.
 fn operand(globals: &Owner<'_, '_>, locals: &Owner<'_, '_>, value: &Expr) -> Option<Operand>
     ensures { IfSome result (λ a. IsOperand globals.now locals.now value.now a) }
 {
     match value {
-        Expr::Number(number) => Some(Operand::Number(*number)),
+        Expr::Number(number) => small(*number),
         Expr::Read(target) => match cell_of(globals, locals, target) {
-            Some(cell) => Some(Operand::Held(cell)),
+            Some(cell) => Some(held(cell)),
             None => None,
         },
         _ => None,
@@ -65,6 +89,21 @@ fn worth_of(globals: &Owner<'_, '_>, locals: &Owner<'_, '_>, value: &Expr) -> Op
     Some(Worth::Plain(a))
 }
 
+/// The cell of a target that keeps a word, and which word.
+fn kept(
+    globals: &Owner<'_, '_>,
+    locals: &Owner<'_, '_>,
+    target: &Target,
+) -> Option<(Scalar, Cell)>
+    ensures { IfSome result (λ k. IsKept globals.now locals.now target.now k.0 k.1) }
+{
+    let Form::Plain(word) = target.form else {
+        return None;
+    };
+    let cell = cell_of(globals, locals, target)?;
+    Some((word, cell))
+}
+
 /// The code of an assignment.
 fn set(
     globals: &Owner<'_, '_>,
@@ -74,34 +113,50 @@ fn set(
 ) -> Option<Code>
     ensures { IfSome result (λ code. IsSet globals.now locals.now target.now value.now code) }
 {
-    let cell = cell_of(globals, locals, target)?;
+    let (word, cell) = kept(globals, locals, target)?;
     let value = worth_of(globals, locals, value)?;
-    Some(Code::Set(cell, target.form, value))
+    Some(Code::Set(word, cell, value))
 }
 
-/// The code of a statement without a structure.
-pub fn code_of(globals: &Owner<'_, '_>, locals: &Owner<'_, '_>, action: &Action<'_>) -> Code
-    ensures { IsCode globals.now locals.now action.now result }
+/// The code of a statement that adds to a variable.
+fn counted(
+    globals: &Owner<'_, '_>,
+    locals: &Owner<'_, '_>,
+    target: &Target,
+    by: i16,
+) -> Option<Code>
+    ensures { IfSome result (λ code. IsCounted globals.now locals.now target.now by code) }
+{
+    let (word, cell) = kept(globals, locals, target)?;
+    let value = Worth::Pair(Infix::Plus, held(cell), Operand::Number(by));
+    Some(Code::Set(word, cell, value))
+}
+
+/// The code of a statement without a structure, if there is one.
+fn code_in(globals: &Owner<'_, '_>, locals: &Owner<'_, '_>, action: &Action<'_>) -> Option<Code>
+    ensures { IfSome result (λ code. IsCode globals.now locals.now action.now code) }
 {
     match action {
-        Action::Assign(Some(target), value) => match set(globals, locals, target, value) {
-            Some(code) => code,
-            None => Code::No,
-        },
-        Action::Holds(value) => match worth_of(globals, locals, value) {
-            Some(value) => Code::Ask(value),
-            None => Code::No,
-        },
-        _ => Code::No,
+        Action::Assign(Some(target), value) => set(globals, locals, target, value),
+        Action::Increment(target) => counted(globals, locals, target, 1),
+        Action::Decrement(target) => counted(globals, locals, target, -1),
+        Action::Holds(value) => {
+            let value = worth_of(globals, locals, value)?;
+            Some(Code::Ask(value))
+        }
+        _ => None,
     }
 }
 
 /// The code of a statement, if there is one.
-pub fn code_at(globals: &Owner<'_, '_>, locals: &Owner<'_, '_>, basic: Option<&Basic<'_>>) -> Code
+pub fn code_of(globals: &Owner<'_, '_>, locals: &Owner<'_, '_>, basic: Option<&Basic<'_>>) -> Code
     ensures { IsCodeOf globals.now locals.now (option_copied basic.entry) result }
 {
     match basic {
-        Some(Basic::Plain(action)) => code_of(globals, locals, action),
+        Some(Basic::Plain(action)) => match code_in(globals, locals, action) {
+            Some(code) => code,
+            None => Code::No,
+        },
         _ => Code::No,
     }
 }

@@ -76,14 +76,14 @@ impl<'p, 'a> Owner<'p, 'a> {
     }
 
     /// Where a cell of a variable is among the cells of all, if the variable has it.
-    pub fn cell(&self, variable: usize, cell: usize) -> Option<u32>
+    pub fn cell(&self, variable: usize, cell: usize) -> Option<u16>
         ensures { IfSome result (λ at. (cell < cells_in self.now variable) × (at ≡ start self.now variable + cell)) }
     {
         if cell >= size_at(self.slots, variable) || variable >= self.starts.len() {
             return None;
         }
         match self.starts[variable].checked_add(cell) {
-            Some(at) if at <= 4_294_967_295 => Some(at as u32),
+            Some(at) if at <= 65_535 => Some(at as u16),
             _ => None,
         }
     }

@@ -17,8 +17,8 @@ pub fn index(store: &Store, base: usize, cell: Cell) -> usize
 {
     let _count = store.cells().len();
     match cell {
-        Cell::Global(at) => at as usize,
-        Cell::Local(at) => base + at as usize,
+        Cell::Global(at) => usize::from(at),
+        Cell::Local(at) => base + usize::from(at),
     }
 }
 
@@ -29,8 +29,9 @@ fn number(store: &Store, base: usize, operand: Operand) -> i32
     ensures { result ≡ number (joined store.now.frames) base operand }
 {
     match operand {
-        Operand::Number(number) => number,
-        Operand::Held(cell) => store.cell(index(store, base, cell)),
+        Operand::Number(number) => i32::from(number),
+        Operand::Global(at) => store.cell(index(store, base, Cell::Global(at))),
+        Operand::Local(at) => store.cell(index(store, base, Cell::Local(at))),
     }
 }
 

@@ -1,6 +1,8 @@
 -- Flat codes of the statements of a model.
 use Rattle.std.proofs.Common.{◌≡◌, ℕ, zero, suc, List, [], ◌∷◌, ◌++◌, length, get_or, refl, sym, ap, subst, ◌∙◌, arith, Option, Some, None, slice_get}
-use Rattle.std.specs.Option.{option_map_or}
+use Rattle.std.specs.Borrow.{Bor}
+use Rattle.std.specs.Prelude.{IfSome}
+use Rattle.std.specs.Option.{option_copied, option_map_or}
 use Rattle.pml_program.specs.declared.program.Basic.{Basic, Plain}
 use Rattle.pml_program.specs.declared.program.Stmt.{Stmt}
 use Rattle.pml_program.specs.declared.program.Slot.{Slot}
@@ -11,6 +13,7 @@ use Rattle.flat_code.specs.declared.code.Code.{Code}
 use Rattle.flat_code.specs.declared.code.Code.TheVariants.{No}
 use Rattle.flat_code.specs.Flat.{IsCodeOf}
 use Rattle.run_state.specs.Standing.{statements_of}
+use Rattle.run_state.proofs.Finding.{got}
 use Rattle.run_state.specs.Coded.{basic_in, statements_at, AreCodes, AreAllCodes}
 
 -- what is so of each of a list, and past its end, is so with one more
@@ -45,3 +48,10 @@ body_codes p k q ss cs h e c =
     let vs : variables_at p k ≡ q.variables = ap (λ (o : Option Proctype). option_map_or (λ (q : Proctype). q.variables) o []) h in
     let ts : statements_at p k ≡ ss = ap (λ (o : Option Proctype). option_map_or (λ (q : Proctype). statements_of q.body) o []) h ∙ sym e in
     subst (λ (v : List Slot). AreCodes p.globals v (statements_at p k) cs) (sym vs) (subst (λ (s : List (Option Stmt)). AreCodes p.globals q.variables s cs) (sym ts) c)
+
+-- the code at a number is that of its statement
+pub code_numbered : (p : Program) (css : List (List Code)) (k n : ℕ) (o : Option (Bor Code)) → AreAllCodes p css → option_copied o ≡ slice_get (get_or css k []) n
+    → IfSome o (λ (code : Bor Code). IsCodeOf p.globals (variables_at p k) (basic_in (statements_at p k) n) code.now)
+code_numbered p css k n None h e = tt
+code_numbered p css k n (Some code) h e =
+    subst (λ (c : Code). IsCodeOf p.globals (variables_at p k) (basic_in (statements_at p k) n) c) (got (get_or css k []) n code.now No (sym e)) (h k n)

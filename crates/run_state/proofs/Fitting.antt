@@ -1,9 +1,14 @@
 -- What flat code finds in a state.
-use Rattle.std.proofs.Common.{◌≡◌, ℕ, zero, suc, ◌+◌, ◌<◌, Bool, true, not, List, [], ◌∷◌, map, length, get_or, refl, sym, ap, subst, ◌∙◌, arith, ℤ, Option, Some, None, Result, Ok, Err, OnOk, OnErr, slice_get}
+use Rattle.std.proofs.Common.{◌≡◌, ℕ, zero, suc, ◌+◌, ◌<◌, Bool, true, not, List, [], ◌∷◌, map, length, get_or, refl, sym, ap, subst, ◌∙◌, arith, ℤ, Option, Some, None, Result, Ok, Err, OnOk, OnErr, IfSome, slice_get}
 use Rattle.std.proofs.lemmas.List.{length-map}
 use Rattle.std.proofs.Math.ListN.{get_or-map}
 use Rattle.diagnostics.specs.declared.fault.Fault.{Fault}
-use Rattle.pml_program.specs.declared.form.Form.{Form}
+use Rattle.std.specs.Borrow.{Bor}
+use Rattle.diagnostics.specs.declared.stop.Stop.{Stop}
+use Rattle.pml_tree.specs.declared.tree.Scalar.{Scalar}
+use Rattle.pml_program.specs.declared.form.Form.TheVariants.{Plain as Kept}
+use Rattle.pml_program.specs.declared.program.Basic.{Basic, Plain}
+use Rattle.pml_program.specs.declared.program.Slot.{Slot}
 use Rattle.pml_program.specs.declared.program.Action.{Action}
 use Rattle.pml_program.specs.declared.program.Program.{Program}
 use Rattle.promela_process.specs.declared.place.Place.{Place}
@@ -25,15 +30,15 @@ use Rattle.flat_code.specs.declared.code.Cell.{Cell}
 use Rattle.flat_code.specs.declared.code.Code.{Code}
 use Rattle.flat_code.specs.declared.code.Code.TheVariants.{No, Set, Ask}
 use Rattle.flat_code.specs.declared.code.Worth.{Worth}
-use Rattle.flat_code.specs.Flat.{Asks, Fits, IsCode, IsCodeOf, Stores, base_of, index, worth}
+use Rattle.flat_code.specs.Flat.{Always, AreIn, Asks, Fits, IsCodeOf, Stores, base_of, index, worth}
 use Rattle.run_state.specs.declared.seat.Seat.{Seat}
 use Rattle.run_state.specs.Standing.{stand_of}
 use Rattle.run_state.specs.Held.{IsHeld, live_of, sorts_of}
-use Rattle.run_state.specs.Coded.{basic_in, statements_at, IsCodeBy}
-use Rattle.run_state.specs.Flatly.{FitsIn}
+use Rattle.run_state.specs.Coded.{basic_in, statements_at, IsCodeIn, IsNumbered}
+use Rattle.run_state.specs.Flatly.{FitsIn, PutsAt}
+use Rattle.run_state.specs.Live.{Leads}
 use Rattle.run_state.proofs.Finding.{there}
 use Rattle.run_state.proofs.Holding.{Stays, same_stays}
-use Rattle.run_state.proofs.Coding.{no_code}
 
 at : (g : ℕ → List ℕ) (ks : List ℕ) (i k : ℕ) → slice_get ks i ≡ Some k → get_or (map g ks) i [] ≡ g k
 at g [] i k h = cc
@@ -89,51 +94,104 @@ seat_sort p [] n x y h k = cc
 seat_sort p (z ∷ xs) zero x y h k = let e : z ≡ x = cc in let f : stand_of p z ≡ y = cc in ap (λ (s : Seat). s.sort) (sym e) ∙ ap (λ (s : Stand). s.sort) f
 seat_sort p (z ∷ xs) (suc n) x y h k = seat_sort p xs n x y h k
 
-pub code_there : (p : Program) (xs : List Seat) (process n : ℕ) (x : Seat) (code : Code) → slice_get xs process ≡ Some x → IsCodeOf p.globals (variables_at p x.sort) (basic_in (statements_at p x.sort) n) code
+code_there : (p : Program) (xs : List Seat) (process n : ℕ) (x : Seat) (code : Code) → slice_get xs process ≡ Some x → IsCodeOf p.globals (variables_at p x.sort) (basic_in (statements_at p x.sort) n) code
     → (y : Stand) → slice_get (map (stand_of p) xs) process ≡ Some y → IsCodeOf p.globals (variables_at p y.sort) (basic_in (statements_at p y.sort) n) code
 code_there p xs process n x code h c y k = subst (λ (s : ℕ). IsCodeOf p.globals (variables_at p s) (basic_in (statements_at p s) n) code) (seat_sort p xs process x y h k) c
 
-pub none_there : (p : Program) (xs : List Seat) (process n : ℕ) (y : Stand) → slice_get (map (stand_of p) xs) process ≡ Some y → IsCodeOf p.globals (variables_at p y.sort) (basic_in (statements_at p y.sort) n) No
-none_there p xs process n y k = no_code p.globals (variables_at p y.sort) (basic_in (statements_at p y.sort) n)
+pub codes_there : (p : Program) (xs : List Seat) (process n : ℕ) (x : Seat) (o : Option (Bor Code)) → slice_get xs process ≡ Some x
+    → IfSome o (λ (code : Bor Code). IsCodeOf p.globals (variables_at p x.sort) (basic_in (statements_at p x.sort) n) code.now)
+    → IfSome o (λ (code : Bor Code). (y : Stand) → slice_get (map (stand_of p) xs) process ≡ Some y → IsCodeOf p.globals (variables_at p y.sort) (basic_in (statements_at p y.sort) n) code.now)
+codes_there p xs process n x None h c = tt
+codes_there p xs process n x (Some code) h c = code_there p xs process n x code.now h c
+
+-- ---- what a code needs
+
+no_set : (word : Scalar) (c : Cell) (v : Worth) → Set word c v ≡ No → ⊥
+no_set word c v h = cc
+
+no_ask : (v : Worth) → Ask v ≡ No → ⊥
+no_ask v h = cc
+
+set_needs : (gs ls : List Slot) (o : Option Basic) (word : Scalar) (c : Cell) (v : Worth) → IsCodeOf gs ls o (Set word c v)
+    → Always gs ls (λ frames base r. HasIndex frames (index base c) × AreIn (joined frames) base v)
+set_needs gs ls None word c v h = absurd (no_set word c v h)
+set_needs gs ls (Some (Plain x)) word c v h frames cs process count timeout fits =
+    let d = h frames cs process count timeout fits in (record { place = d.at; there = d.there; stands = d.stands }, d.within)
+set_needs gs ls (Some b) word c v h = absurd (no_set word c v h)
+
+ask_needs : (gs ls : List Slot) (o : Option Basic) (v : Worth) → IsCodeOf gs ls o (Ask v) → Always gs ls (λ frames base r. AreIn (joined frames) base v)
+ask_needs gs ls None v h = absurd (no_ask v h)
+ask_needs gs ls (Some (Plain x)) v h frames cs process count timeout fits = (h frames cs process count timeout fits).within
+ask_needs gs ls (Some b) v h = absurd (no_ask v h)
 
 -- ---- what a code says of a state
 
-module _ (s : State) (process : ℕ) (timeout : Bool) (x : Action) (code : Code) (f : FitsIn s process) (is : IsCodeBy s process x code) where
-  pub asks_in : (v : Worth) → code ≡ Ask v → Asks s.frames (base_of s.frames process) (reads s process timeout) x v
-  asks_in v e =
-      let c : IsCode s.program.globals (variables_at s.program f.stand.sort) x (Ask v) = subst (IsCode s.program.globals (variables_at s.program f.stand.sort) x) e (is f.stand f.at) in
-      c s.frames s.channels process (length s.stands) timeout f.fits
+module _ (s : State) (process n : ℕ) (code : Code) (f : FitsIn s process) (is : IsCodeIn s process n code) where
+  abbrev gs : List Slot
+  gs = s.program.globals
 
-  pub stores_in : (c : Cell) (form : Form) (v : Worth) → code ≡ Set c form v → Stores s.frames (base_of s.frames process) (reads s process timeout) x c form v
-  stores_in c form v e =
-      let d : IsCode s.program.globals (variables_at s.program f.stand.sort) x (Set c form v) = subst (IsCode s.program.globals (variables_at s.program f.stand.sort) x) e (is f.stand f.at) in
-      d s.frames s.channels process (length s.stands) timeout f.fits
+  abbrev ls : List Slot
+  ls = variables_at s.program f.stand.sort
 
-  pub ask_fails : (v : Worth) (e : Fault) → code ≡ Ask v → worth (joined s.frames) (base_of s.frames process) v ≡ Err e → put_by s (outcome x (reads s process timeout)) ≡ Err e
-  ask_fails v e is w = ap (put_by s) ((asks_in v is).does ∙ ap (λ (o : Result ℤ Fault). o >>= λ n. Ok None) w)
+  abbrev basic : Option Basic
+  basic = basic_in (statements_at s.program f.stand.sort) n
 
-  pub ask_goes : (v : Worth) (n : ℤ) → code ≡ Ask v → worth (joined s.frames) (base_of s.frames process) v ≡ Ok n → put_by s (outcome x (reads s process timeout)) ≡ Ok s
-  ask_goes v n is w = ap (put_by s) ((asks_in v is).does ∙ ap (λ (o : Result ℤ Fault). o >>= λ n. Ok None) w)
+  abbrev base : ℕ
+  base = base_of s.frames process
 
-  pub set_fails : (c : Cell) (form : Form) (v : Worth) (e : Fault) → code ≡ Set c form v → worth (joined s.frames) (base_of s.frames process) v ≡ Err e → put_by s (outcome x (reads s process timeout)) ≡ Err e
-  set_fails c form v e is w =
-      let d = stores_in c form v is in
-      ap (put_by s) (d.does ∙ ap (λ (o : Result ℤ Fault). o >>= λ n. Ok (Some (record { place = d.at; number = clipped form n }))) w)
+  has : (k : Code) → code ≡ k → IsCodeOf gs ls basic k
+  has k e = subst (IsCodeOf gs ls basic) e (is f.stand f.at)
 
-  pub set_goes : (c : Cell) (form : Form) (v : Worth) (n : ℤ) (is : code ≡ Set c form v) → worth (joined s.frames) (base_of s.frames process) v ≡ Ok n
-      → put_by s (outcome x (reads s process timeout)) ≡ Ok (put s (record { place = (stores_in c form v is).at; number = clipped form n }))
-  set_goes c form v n is w =
-      let d = stores_in c form v is in
-      ap (put_by s) (d.does ∙ ap (λ (o : Result ℤ Fault). o >>= λ n. Ok (Some (record { place = d.at; number = clipped form n }))) w)
+  pub set_there : (word : Scalar) (c : Cell) (v : Worth) → code ≡ Set word c v → HasIndex s.frames (index base c)
+  set_there word c v e = (set_needs gs ls basic word c v (has (Set word c v) e) s.frames s.channels process (length s.stands) true f.fits).0
 
-  pub set_there : (c : Cell) (form : Form) (v : Worth) → code ≡ Set c form v → HasIndex s.frames (index (base_of s.frames process) c)
-  set_there c form v is = let d = stores_in c form v is in record { place = d.at; there = d.there; stands = d.stands }
+  pub set_in : (word : Scalar) (c : Cell) (v : Worth) → code ≡ Set word c v → AreIn (joined s.frames) base v
+  set_in word c v e = (set_needs gs ls basic word c v (has (Set word c v) e) s.frames s.channels process (length s.stands) true f.fits).1
 
-  pub set_can : (c : Cell) (form : Form) (v : Worth) → code ≡ Set c form v → (d : Bool) → can s.lossy s.channels (reads s process timeout) d x ≡ true
-  set_can c form v is d = ap or_fault ((stores_in c form v is).free s.lossy s.channels d)
+  pub ask_in : (v : Worth) → code ≡ Ask v → AreIn (joined s.frames) base v
+  ask_in v e = ask_needs gs ls basic v (has (Ask v) e) s.frames s.channels process (length s.stands) true f.fits
 
-  pub ask_can : (v : Worth) (n : ℤ) → code ≡ Ask v → worth (joined s.frames) (base_of s.frames process) v ≡ Ok n → (d : Bool) → can s.lossy s.channels (reads s process timeout) d x ≡ not (is_zero n)
-  ask_can v n is w d = ap or_fault ((asks_in v is).asks s.lossy s.channels d ∙ ap (λ (o : Result ℤ Fault). o >>= λ n. Ok (not (is_zero n))) w)
+  -- of the statement with its number
+  module _ (x : Action) (timeout : Bool) (numbered : IsNumbered s process n (Some (Plain x))) where
+    of : (k : Code) → code ≡ k → IsCodeOf gs ls (Some (Plain x)) k
+    of k e = subst (λ (o : Option Basic). IsCodeOf gs ls o k) (numbered f.stand f.at) (has k e)
 
-  pub ask_can_fail : (v : Worth) (e : Fault) → code ≡ Ask v → worth (joined s.frames) (base_of s.frames process) v ≡ Err e → (d : Bool) → can s.lossy s.channels (reads s process timeout) d x ≡ true
-  ask_can_fail v e is w d = ap or_fault ((asks_in v is).asks s.lossy s.channels d ∙ ap (λ (o : Result ℤ Fault). o >>= λ n. Ok (not (is_zero n))) w)
+    stores : (word : Scalar) (c : Cell) (v : Worth) → code ≡ Set word c v → Stores s.frames base (reads s process timeout) x word c v
+    stores word c v e = of (Set word c v) e s.frames s.channels process (length s.stands) timeout f.fits
+
+    asks : (v : Worth) → code ≡ Ask v → Asks s.frames base (reads s process timeout) x v
+    asks v e = of (Ask v) e s.frames s.channels process (length s.stands) timeout f.fits
+
+    pub ask_fails : (v : Worth) (e : Fault) → code ≡ Ask v → worth (joined s.frames) base v ≡ Err e → put_by s (outcome x (reads s process timeout)) ≡ Err e
+    ask_fails v e i w = ap (put_by s) ((asks v i).does ∙ ap (λ (o : Result ℤ Fault). o >>= λ n. Ok None) w)
+
+    pub ask_goes : (v : Worth) (m : ℤ) → code ≡ Ask v → worth (joined s.frames) base v ≡ Ok m → put_by s (outcome x (reads s process timeout)) ≡ Ok s
+    ask_goes v m i w = ap (put_by s) ((asks v i).does ∙ ap (λ (o : Result ℤ Fault). o >>= λ n. Ok None) w)
+
+    pub set_fails : (word : Scalar) (c : Cell) (v : Worth) (e : Fault) → code ≡ Set word c v → worth (joined s.frames) base v ≡ Err e
+        → put_by s (outcome x (reads s process timeout)) ≡ Err e
+    set_fails word c v e i w =
+        let d = stores word c v i in
+        ap (put_by s) (d.does ∙ ap (λ (o : Result ℤ Fault). o >>= λ n. Ok (Some (record { place = d.at; number = clipped (Kept word) n }))) w)
+
+    set_goes : (word : Scalar) (c : Cell) (v : Worth) (m : ℤ) (i : code ≡ Set word c v) → worth (joined s.frames) base v ≡ Ok m
+        → put_by s (outcome x (reads s process timeout)) ≡ Ok (put s (record { place = (stores word c v i).at; number = clipped (Kept word) m }))
+    set_goes word c v m i w =
+        let d = stores word c v i in
+        ap (put_by s) (d.does ∙ ap (λ (o : Result ℤ Fault). o >>= λ n. Ok (Some (record { place = d.at; number = clipped (Kept word) n }))) w)
+
+    -- what is put at its cell is what the statement stores
+    pub set_puts : (word : Scalar) (c : Cell) (v : Worth) (m : ℤ) (r : Result (Unit {0}) Stop) (new : State) → code ≡ Set word c v → worth (joined s.frames) base v ≡ Ok m
+        → PutsAt s (index base c) word m r new → Leads (put_by s (outcome x (reads s process timeout))) r new
+    set_puts word c v m r new i w h =
+        let d = stores word c v i in
+        subst (λ (o : Result State Fault). Leads o r new) (sym (set_goes word c v m i w)) (h d.at d.there d.stands)
+
+    pub set_can : (word : Scalar) (c : Cell) (v : Worth) → code ≡ Set word c v → (d : Bool) → can s.lossy s.channels (reads s process timeout) d x ≡ true
+    set_can word c v i d = ap or_fault ((stores word c v i).free s.lossy s.channels d)
+
+    pub ask_can : (v : Worth) (m : ℤ) → code ≡ Ask v → worth (joined s.frames) base v ≡ Ok m → (d : Bool) → can s.lossy s.channels (reads s process timeout) d x ≡ not (is_zero m)
+    ask_can v m i w d = ap or_fault ((asks v i).asks s.lossy s.channels d ∙ ap (λ (o : Result ℤ Fault). o >>= λ n. Ok (not (is_zero n))) w)
+
+    pub ask_can_fail : (v : Worth) (e : Fault) → code ≡ Ask v → worth (joined s.frames) base v ≡ Err e → (d : Bool) → can s.lossy s.channels (reads s process timeout) d x ≡ true
+    ask_can_fail v e i w d = ap or_fault ((asks v i).asks s.lossy s.channels d ∙ ap (λ (o : Result ℤ Fault). o >>= λ n. Ok (not (is_zero n))) w)

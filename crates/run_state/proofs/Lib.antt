@@ -9,3 +9,4 @@ pub mod Creating
 pub mod Counting
 pub mod Coding
 pub mod Fitting
+pub mod Numbering

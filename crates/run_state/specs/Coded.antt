@@ -1,7 +1,6 @@
 -- The flat codes of statements.
 use Rattle.std.specs.Prelude.{◌≡◌, ℕ, List, [], Option, Some, None, option_map, slice_get, slice_index_or}
 use Rattle.std.specs.Option.{option_map_or}
-use Rattle.pml_program.specs.declared.program.Action.{Action}
 use Rattle.pml_program.specs.declared.program.Basic.{Basic}
 use Rattle.pml_program.specs.declared.program.Stmt.{Stmt}
 use Rattle.pml_program.specs.declared.program.Slot.{Slot}
@@ -10,7 +9,7 @@ use Rattle.pml_flow.specs.Graph.{Graph}
 use Rattle.promela_run.specs.State.{Stand, State, variables_at}
 use Rattle.flat_code.specs.declared.code.Code.{Code}
 use Rattle.flat_code.specs.declared.code.Code.TheVariants.{No}
-use Rattle.flat_code.specs.Flat.{IsCode, IsCodeOf}
+use Rattle.flat_code.specs.Flat.{IsCodeOf}
 use Rattle.run_state.specs.Standing.{statements_of, IsPlayed}
 
 -- the statement with a number, without its labels
@@ -34,11 +33,11 @@ pub record IsPrepared (p : Program) (gs : List Graph) (ss : List (List (Option S
   pub played : IsPlayed p gs ss
   pub codes : AreAllCodes p cs
 
+-- the statement with this number of the proctype of a process is this, without its labels
+abbrev pub IsNumbered : State → ℕ → ℕ → Option Basic → Type 0
+IsNumbered s process n o = (y : Stand) → slice_get s.stands process ≡ Some y → basic_in (statements_at s.program y.sort) n ≡ o
+
 -- it is the code of the statement with this number of the proctype of a process
 abbrev pub IsCodeIn : State → ℕ → ℕ → Code → Type 0
 IsCodeIn s process n code = (y : Stand) → slice_get s.stands process ≡ Some y
     → IsCodeOf s.program.globals (variables_at s.program y.sort) (basic_in (statements_at s.program y.sort) n) code
-
--- it is the code of a statement, as a process has it
-abbrev pub IsCodeBy : State → ℕ → Action → Code → Type 0
-IsCodeBy s process x code = (y : Stand) → slice_get s.stands process ≡ Some y → IsCode s.program.globals (variables_at s.program y.sort) x code

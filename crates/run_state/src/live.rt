@@ -20,23 +20,15 @@ ghost use Rattle.run_state.specs.Live.{Leads, Keeps, Joins, PastGrows, along, at
 ghost use Rattle.promela_run.specs.World.{first};
 ghost use Rattle.run_state.specs.Calls.{put_if};
 ghost use Rattle.run_state.specs.Storing.{AreIn};
-ghost use Rattle.run_state.specs.Coded.{IsCodeBy, IsCodeIn};
-ghost use Rattle.flat_code.specs.Flat.{base_of, index, worth, AreIn as AreThereIn};
-ghost use Rattle.pml_store.specs.Writing.{joined, HasIndex};
-ghost use Rattle.run_state.specs.Flatly.{AnswersCan, FitsIn, PutsAt};
 
 use crate::body::Body;
 use crate::channels::{keep_others, message_numbers};
 use crate::played::{Played, seats_of};
-use crate::seat::{Seat, seat_at};
+use crate::seat::Seat;
 use crate::storing::store_all;
-use diagnostics::{Fault, Stop};
-use flat_code::code::{Cell, Code, Worth};
-use flat_code::run::{index, worth};
-use pml_eval::clip::clip;
+use diagnostics::Stop;
 use pml_flow::edge::Edge;
 use pml_program::expr::{Expr, Target};
-use pml_program::form::Form;
 use pml_program::program::{Action, Program};
 use pml_store::store::Store;
 use pml_tree::tree::{Removal, Search, SendOrder};
@@ -58,9 +50,9 @@ use std::marker::Model;
 /// what there was when its step began.
 #[derive(Drop)]
 pub struct Live<'p, 'a> {
-    played: Played<'p, 'a>,
-    started: Started,
-    seats: Vec<Seat>,
+    pub(crate) played: Played<'p, 'a>,
+    pub(crate) started: Started,
+    pub(crate) seats: Vec<Seat>,
     holder: Option<usize>,
     lossy: bool,
 }
@@ -240,56 +232,6 @@ impl<'p, 'a> Live<'p, 'a> {
         }
     }
 
-    /// The flat code of a statement of a process, by their numbers.
-    #[inline(always)]
-    pub fn code(&self, process: usize, statement: usize) -> Code
-        ensures { IsCodeIn self.now.state process statement result }
-    {
-        match seat_at(self.seats.as_slice(), process) {
-            Some(seat) => self.played.code(seat.sort, statement),
-            None => Code::No,
-        }
-    }
-
-    /// The frames of the globals and of a process are as they are declared.
-    #[inline(always)]
-    fn fits(&self, process: usize)
-        requires { process < length self.now.state.stands }
-        ensures { FitsIn self.now.state process }
-    {
-        let _lossy = self.lossy;
-    }
-
-    /// What flat code is worth to a process.
-    #[inline(always)]
-    pub fn flat_worth(&self, process: usize, value: &Worth) -> Result<i32, Fault>
-        requires process { process < length self.now.state.stands }
-        requires there { AreThereIn (joined self.now.state.frames) (base_of self.now.state.frames process) value.now }
-        ensures { result ≡ worth (joined self.now.state.frames) (base_of self.now.state.frames process) value.now }
-    {
-        let store = &self.started.store;
-        worth(store, store.base(process + 1), value)
-    }
-
-    /// Whether a statement of a process can be taken by itself, where it has flat code.
-    #[inline(always)]
-    pub fn can_by(&self, process: usize, action: &Action<'_>, code: Code) -> Option<bool>
-        requires process { process < length self.now.state.stands }
-        requires code { IsCodeBy self.now.state process action.now code }
-        ensures { IfSome result (AnswersCan self.now.state process action.now) }
-    {
-        let _action = action;
-        self.fits(process);
-        match code {
-            Code::No => None,
-            Code::Set(_, _, _) => Some(true),
-            Code::Ask(value) => match self.flat_worth(process, &value) {
-                Err(_) => Some(true),
-                Ok(number) => Some(number != 0),
-            },
-        }
-    }
-
     /// How much it keeps: the numbers in variables and messages, two for each process and two for each channel.
     pub fn footprint(&self) -> usize
         ensures value { result ≡ held self.now.state }
@@ -354,50 +296,6 @@ impl<'p, 'a> Live<'p, 'a> {
         match outcome(action, &self.view(process, timeout)) {
             Err(fault) => Err(Stop::Fault(fault)),
             Ok(goes) => self.put(goes),
-        }
-    }
-
-    /// Stores what a type keeps of a number in a cell.
-    #[inline(always)]
-    fn put_flat(&mut self, process: usize, cell: Cell, form: Form, number: i32) -> Result<(), Stop>
-        requires process { process < length self.old.state.stands }
-        requires there { HasIndex self.old.state.frames (index (base_of self.old.state.frames process) cell) }
-        ensures value { PutsAt self.old.state (index (base_of self.old.state.frames process) cell) form number result self.new.state }
-        ensures keeps { Keeps self.old self.new }
-    {
-        let store = &self.started.store;
-        let at = index(store, store.base(process + 1), cell);
-        match self.started.store.set_cell(at, clip(form, number)) {
-            Ok(()) => Ok(()),
-            Err(_) => Err(Stop::Memory),
-        }
-    }
-
-    /// Takes a statement as `store` does, by its flat code where it has one.
-    #[inline(always)]
-    pub fn store_by(
-        &mut self,
-        process: usize,
-        timeout: bool,
-        action: &Action<'_>,
-        code: Code,
-    ) -> Result<(), Stop>
-        requires process { process < length self.old.state.stands }
-        requires code { IsCodeBy self.old.state process action.now code }
-        ensures value { Leads (put_by self.old.state (outcome action.now (reads self.old.state process timeout))) result self.new.state }
-        ensures keeps { Keeps self.old self.new }
-    {
-        self.fits(process);
-        match code {
-            Code::No => self.store(process, timeout, action),
-            Code::Ask(value) => match self.flat_worth(process, &value) {
-                Err(fault) => Err(Stop::Fault(fault)),
-                Ok(_) => Ok(()),
-            },
-            Code::Set(cell, form, value) => match self.flat_worth(process, &value) {
-                Err(fault) => Err(Stop::Fault(fault)),
-                Ok(number) => self.put_flat(process, cell, form, number),
-            },
         }
     }
 

@@ -1,33 +1,29 @@
 //! A model that is played, with what is made of it once.
 
-ghost use Rattle.std.specs.Prelude.{◌≡◌, ◌<◌, [], length, IfOk, IfSome, map, option_map, slice_get, slice_index_or};
+ghost use Rattle.std.specs.Prelude.{◌≡◌, IfOk, IfSome, map, option_map, slice_get};
 ghost use Rattle.std.specs.Option.{option_copied};
 ghost use Rattle.pml_flow.specs.Graph.{AreGraphs};
-ghost use Rattle.promela_run.specs.State.{body_of, begins_at};
-ghost use Rattle.promela_run.specs.State.{variables_at};
-ghost use Rattle.flat_code.specs.declared.code.Code.TheVariants.{No};
+ghost use Rattle.promela_run.specs.State.{body_of, begins_at, variables_at};
+ghost use Rattle.run_state.specs.Coded.{basic_in, statements_at};
 ghost use Rattle.flat_code.specs.Flat.{IsCodeOf};
-ghost use Rattle.run_state.specs.Coded.{basic_in, statements_at, AreCodes, AreAllCodes};
 ghost use Rattle.run_state.specs.Held.{sorts_of};
 ghost use Rattle.run_state.specs.Standing.{stand_of, statements_of, IsBody};
 
 use crate::body::Body;
+use crate::coding::{code_at, codes_of_all};
 use crate::seat::Seat;
 use flat_code::code::Code;
 use flat_code::codes::Codes;
-use flat_code::make::code_at;
-use flat_code::owner::Owner;
-use pml_flow::edge::Edge;
 use pml_flow::graph::Graph;
 use pml_flow::statements::{Statements, all_statements};
-use pml_program::program::{Basic, Proctype, Program};
+use pml_program::program::{Proctype, Program};
 use run_layout::tables::Tables;
 use run_start::Beginnings;
 use std::alloc::{AllocError, Global};
 use std::marker::Model;
 
-/// A model that is played: its tables and what its typedefs begin with, and the graphs, the statements and their
-/// flat codes of its proctypes, in their order. Contracts see the program.
+/// A model that is played: its tables and what its typedefs begin with, and the graphs, the statements and their flat
+/// codes of its proctypes, in their order. Contracts see the program.
 #[derive(Drop)]
 pub struct Played<'p, 'a> {
     beginnings: Beginnings<'p, 'a>,
@@ -93,7 +89,7 @@ pub fn proctype_at<'p, 'a>(program: &'p Program<'a>, sort: usize) -> Option<&'p 
 }
 
 /// The body of the proctype with this number.
-fn body_at<'w, 'p, 'a>(
+pub(crate) fn body_at<'w, 'p, 'a>(
     program: &'p Program<'a>,
     graphs: &'p [Graph],
     statements: &'w [Statements<'p, 'a>],
@@ -111,110 +107,6 @@ fn body_at<'w, 'p, 'a>(
         graph: &graphs[sort],
         statements: &statements[sort],
     })
-}
-
-// ---- flat codes
-
-/// The number behind those of the statements of edges, or this one.
-fn behind(edges: &[Edge], count: usize) -> usize {
-    let mut count = count;
-    for edge in edges {
-        if edge.statement >= count {
-            count = edge.statement.saturating_add(1);
-        }
-    }
-    count
-}
-
-/// The same of a node.
-fn behind_node(graph: &Graph, node: usize, count: usize) -> usize
-    requires { node < length graph.now.nodes }
-{
-    let mut count = count;
-    for level in 0..graph.level_count(node) {
-        count = behind(graph.level(node, level), count);
-    }
-    count
-}
-
-/// The number behind those of the statements that edges have.
-fn statement_count(graph: &Graph) -> usize {
-    let mut count = 0;
-    for node in 0..graph.node_count() {
-        count = behind_node(graph, node, count);
-    }
-    count
-}
-
-/// The statement with this number, without its labels.
-fn basic_at<'p, 'a>(statements: &Statements<'p, 'a>, number: usize) -> Option<&'p Basic<'a>>
-    ensures { option_copied result ≡ basic_in statements.now number }
-{
-    let statement = statements.get(number)?;
-    Some(&statement.basic)
-}
-
-/// The codes of so many statements.
-fn codes_of(
-    alloc: Global,
-    globals: &Owner<'_, '_>,
-    locals: &Owner<'_, '_>,
-    statements: &Statements<'_, '_>,
-    count: usize,
-) -> Result<Codes, AllocError>
-    ensures { IfOk result (AreCodes globals.now locals.now statements.now) }
-{
-    let mut codes = Codes::with_capacity(alloc, count)?;
-    for number in 0..count {
-        codes.add(code_at(globals, locals, basic_at(statements, number)))?;
-    }
-    Ok(codes)
-}
-
-/// The codes of a body.
-fn codes_in(
-    alloc: Global,
-    globals: &Owner<'_, '_>,
-    body: &Body<'_, '_, '_>,
-) -> Result<Codes, AllocError>
-    ensures { IfOk result (AreCodes globals.now body.now.proctype.now.variables body.now.statements.now) }
-{
-    let locals = Owner::new(alloc, body.proctype.variables.as_slice())?;
-    let count = statement_count(body.graph);
-    codes_of(alloc, globals, &locals, body.statements, count)
-}
-
-/// The codes of each proctype.
-fn codes_of_all<'p, 'a>(
-    alloc: Global,
-    program: &'p Program<'a>,
-    graphs: &'p [Graph],
-    statements: &[Statements<'p, 'a>],
-) -> Result<Vec<Codes>, AllocError>
-    requires graphs { AreGraphs program.now.proctypes graphs.now }
-    requires statements { statements.now ≡ map (λ q. statements_of q.body) program.now.proctypes }
-    ensures { IfOk result (λ v. AreAllCodes program.now v.items) }
-{
-    let globals = Owner::new(alloc, program.globals.as_slice())?;
-    let mut all = Vec::with_capacity(alloc, statements.len())?;
-    for sort in 0..statements.len() {
-        match body_at(program, graphs, statements, sort) {
-            Some(body) => all.push(codes_in(alloc, &globals, &body)?)?,
-            None => return Ok(all),
-        }
-    }
-    Ok(all)
-}
-
-/// The code of a statement of a proctype, by their numbers.
-#[inline(always)]
-fn code_in(codes: &[Codes], sort: usize, statement: usize) -> Code
-    ensures { result ≡ slice_index_or (slice_index_or codes.now sort []) statement No }
-{
-    match codes.get(sort) {
-        Some(codes) => codes.get(statement),
-        None => Code::No,
-    }
 }
 
 impl<'p, 'a> Played<'p, 'a> {
@@ -282,10 +174,11 @@ impl<'p, 'a> Played<'p, 'a> {
 
     /// The flat code of a statement of a proctype, by their numbers.
     #[inline(always)]
-    pub fn code(&self, sort: usize, statement: usize) -> Code
-        ensures { IsCodeOf self.now.globals (variables_at self.now sort) (basic_in (statements_at self.now sort) statement) result }
+    pub fn code(&self, sort: usize, statement: usize) -> Option<&Code>
+        ensures { IfSome result (λ code. IsCodeOf self.now.globals (variables_at self.now sort)
+            (basic_in (statements_at self.now sort) statement) code.now) }
     {
-        code_in(self.flat.as_slice(), sort, statement)
+        code_at(self.flat.as_slice(), sort, statement)
     }
 
     /// A process of the proctype with this number before its first statement.

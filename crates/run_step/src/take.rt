@@ -74,7 +74,14 @@ fn take_offer(
 {
     match offer.basic {
         Some(Basic::DStep(_)) => inside(live, pick, timeout, offer.edge.entry, text),
-        _ => effect(live, pick.process, timeout, offer.basic, text),
+        _ => effect(
+            live,
+            pick.process,
+            timeout,
+            offer.basic,
+            offer.edge.statement,
+            text,
+        ),
     }
 }
 

@@ -1,6 +1,6 @@
 use Rattle.std.proofs.Common.{◌≡◌, length}
 use Rattle.run_state.specs.Coded.{AreAllCodes}
-use Rattle.run_state.proofs.played.codes_of_all.Given as goal
+use Rattle.run_state.proofs.coding.codes_of_all.Given as goal
 
 -- those so far
 abbrev pub invariant-loop-sort : goal.invariant-loop-sort

@@ -1,7 +1,7 @@
 use Rattle.std.proofs.Common.{refl, sym, rules, FitsSigned, w32}
 use Rattle.std.proofs.lemmas.Int.{to_z-of_z}
 use Rattle.run_state.proofs.Fitting.{asks_in, stores_in, set_fails, set_goes, set_there}
-use Rattle.run_state.proofs.live.Live.store_by.Goals as goal
+use Rattle.run_state.proofs.flat.Live.store_flat.Goals as goal
 
 pub flat_worth-requires-clause-there : goal.flat_worth-requires-clause-there
 flat_worth-requires-clause-there c =

@@ -1,6 +1,6 @@
 use Rattle.std.proofs.Common.{rules, sym, true}
 use Rattle.run_state.proofs.Fitting.{asks_in, set_can, ask_can, ask_can_fail}
-use Rattle.run_state.proofs.live.Live.can_by.Goals as goal
+use Rattle.run_state.proofs.flat.Live.can_flat.Goals as goal
 
 pub returns-in-Set : goal.returns-in-Set
 returns-in-Set c timeout d =

@@ -1,6 +1,6 @@
 use Rattle.std.proofs.Common.{◌≡◌, length}
 use Rattle.run_state.specs.Coded.{AreCodes}
-use Rattle.run_state.proofs.played.codes_of.Given as goal
+use Rattle.run_state.proofs.coding.codes_of.Given as goal
 
 -- those so far
 abbrev pub invariant-loop-number : goal.invariant-loop-number
