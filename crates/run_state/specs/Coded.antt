@@ -7,10 +7,12 @@ use Rattle.pml_program.specs.declared.program.Slot.{Slot}
 use Rattle.pml_program.specs.declared.program.Program.{Program}
 use Rattle.pml_flow.specs.Graph.{Graph}
 use Rattle.promela_run.specs.State.{Stand, State, variables_at}
+use Rattle.promela_run.specs.Steps.{body_by}
 use Rattle.flat_code.specs.declared.code.Code.{Code}
 use Rattle.flat_code.specs.declared.code.Code.TheVariants.{No}
 use Rattle.flat_code.specs.Flat.{IsCodeOf}
-use Rattle.run_state.specs.Standing.{statements_of, IsPlayed}
+use Rattle.run_state.specs.declared.body.Body.{Body}
+use Rattle.run_state.specs.Standing.{seq_of, statements_of, IsPlayed}
 
 -- the statement with a number, without its labels
 abbrev pub basic_in : List (Option Stmt) → ℕ → Option Basic
@@ -32,6 +34,10 @@ AreAllCodes p cs = (k : ℕ) → AreCodes p.globals (variables_at p k) (statemen
 pub record IsPrepared (p : Program) (gs : List Graph) (ss : List (List (Option Stmt))) (cs : List (List Code)) : Type 0 where
   pub played : IsPlayed p gs ss
   pub codes : AreAllCodes p cs
+
+-- a process stands in this body
+abbrev pub HasBody : State → ℕ → Body → Type 0
+HasBody s process k = body_by s (slice_get s.stands process) ≡ Some (seq_of k)
 
 -- the statement with this number of the proctype of a process is this, without its labels
 abbrev pub IsNumbered : State → ℕ → ℕ → Option Basic → Type 0

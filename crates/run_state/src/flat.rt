@@ -34,7 +34,7 @@ impl Live<'_, '_> {
         requires { process < length self.now.state.stands }
         ensures { FitsIn self.now.state process }
     {
-        let _lossy = self.is_lossy();
+        let _count = self.seats.len();
     }
 
     /// What flat code is worth to a process.
