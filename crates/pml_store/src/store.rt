@@ -78,11 +78,11 @@ impl Store {
 
     /// The number in a cell, by its index among all.
     #[inline(always)]
-    pub fn cell(&self, at: usize) -> i32
-        requires { at < length (joined self.now.frames) }
-        ensures { result ≡ slice_index_or (joined self.now.frames) at (pos 0) }
+    pub fn cell(&self, index: usize) -> i32
+        requires { index < length (joined self.now.frames) }
+        ensures { result ≡ slice_index_or (joined self.now.frames) index (pos 0) }
     {
-        self.cells[at]
+        self.cells[index]
     }
 
     /// Where the cells of a frame begin among all.
@@ -125,9 +125,9 @@ impl Store {
         ensures err { OnErr result (self.new ≡ self.old) }
         ensures past { before self.new ≡ before self.old }
     {
-        let before = self.cells[at];
+        let old = self.cells[at];
         self.written.reserve(1)?;
-        self.written.push_reserved((at as u32, before));
+        self.written.push_reserved((at as u32, old));
         self.cells[at] = number;
         Ok(())
     }

@@ -115,13 +115,13 @@ no_ask v h = cc
 set_needs : (gs ls : List Slot) (o : Option Basic) (word : Scalar) (c : Cell) (v : Worth) → IsCodeOf gs ls o (Set word c v)
     → Always gs ls (λ frames base r. HasIndex frames (index base c) × AreIn (joined frames) base v)
 set_needs gs ls None word c v h = absurd (no_set word c v h)
-set_needs gs ls (Some (Plain x)) word c v h frames cs process count timeout fits =
+set_needs gs ls (Some (Plain x)) word c v h = λ frames cs process count timeout fits.
     let d = h frames cs process count timeout fits in (record { place = d.at; there = d.there; stands = d.stands }, d.within)
 set_needs gs ls (Some b) word c v h = absurd (no_set word c v h)
 
 ask_needs : (gs ls : List Slot) (o : Option Basic) (v : Worth) → IsCodeOf gs ls o (Ask v) → Always gs ls (λ frames base r. AreIn (joined frames) base v)
 ask_needs gs ls None v h = absurd (no_ask v h)
-ask_needs gs ls (Some (Plain x)) v h frames cs process count timeout fits = (h frames cs process count timeout fits).within
+ask_needs gs ls (Some (Plain x)) v h = λ frames cs process count timeout fits. (h frames cs process count timeout fits).within
 ask_needs gs ls (Some b) v h = absurd (no_ask v h)
 
 -- ---- what a code says of a state

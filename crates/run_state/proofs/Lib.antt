@@ -7,6 +7,6 @@ pub mod Holding
 pub mod Stored
 pub mod Creating
 pub mod Counting
-pub mod Coding
+pub mod Tables
 pub mod Fitting
 pub mod Numbering

@@ -13,7 +13,6 @@ use Rattle.promela_run.specs.State.{State, picked}
 use Rattle.run_step.specs.declared.take.Offer.{Offer}
 use Rattle.promela_run.specs.Steps.{body_by, within_from, taken}
 use Rattle.run_step.specs.Done.{Does}
-use Rattle.run_state.specs.Coded.{IsNumbered}
 use Rattle.run_state.specs.Live.{PastGrows}
 use Rattle.promela_run.specs.World.{Running}
 
@@ -25,7 +24,6 @@ pub record IsOffer (s : State) (k : Pick) (x : Offer) : Type 0 where
   pub body : Seq
   pub stands : body_by s (slice_get s.stands k.process) ≡ Some body
   pub basic : option_copied x.basic ≡ offer.basic
-  pub numbered : IsNumbered s k.process x.edge.now.statement (option_copied x.basic)
   pub next : point_at body x.edge.now.target ≡ offer.next
   pub keeps : x.edge.now.keeps ≡ offer.keeps
   pub entry : maybe (point_at body) x.edge.now.entry ≡ offer.entry

@@ -1,5 +1,5 @@
 use Rattle.std.proofs.Common.{rules, arith, length, length-append, ◌∷◌, [], ◌≡◌, ◌+◌}
-use Rattle.run_state.proofs.Coding.{more_codes}
+use Rattle.run_state.proofs.Tables.{more_codes}
 use Rattle.run_state.proofs.coding.codes_of.Goals as goal
 
 pub loop-number-preserved : goal.loop-number-preserved

@@ -8,8 +8,8 @@ use Rattle.pml_store.proofs.Places.{joined_is, index_is, at_index}
 use Rattle.pml_store.proofs.Storing.{frames_of-set, contents_is, noted}
 use Rattle.pml_store.proofs.store.Store.set_cell.Goals as goal
 
-pub index-before-requires : goal.index-before-requires
-index-before-requires c =
+pub index-old-requires : goal.index-old-requires
+index-old-requires c =
     let j = joined_is _ _ c.self.invariant.laid in
     let i = at_index _ _ c.requires.place c.args.at c.self.invariant.laid (rw (← c.self.view_is) at c.requires.there) (rw (← c.self.view_is) at c.requires.stands) in
     let w = rw j at i.within in
@@ -39,10 +39,10 @@ returns-clause-ok c p h e =
     let w = rw j at at.holds in
     let i = index_is _ _ p c.self.invariant.laid there in
     let fs = frames_of-set _ _ p c.args.number c.self.invariant.laid there in
-    let f : FitsSigned w32 c.index-before.result.now = search rules in
+    let f : FitsSigned w32 c.index-old.result.now = search rules in
     let g : FitsSigned w32 c.args.number = search rules in
     let number = to_z-of_z w32 c.args.number g in
-    let before = to_z-of_z w32 c.index-before.result.now f ∙ c.index-before.ensures ∙ get_or_default c.self.inside.cells.items c.args.at c.index-before.result.now (pos 0) k ∙ w in
+    let before = to_z-of_z w32 c.index-old.result.now f ∙ c.index-old.ensures ∙ get_or_default c.self.inside.cells.items c.args.at c.index-old.result.now (pos 0) k ∙ w in
     let frames =
     ap (λ (n : ℤ). frames_of c.self.inside.frames.items (set c.self.inside.cells.items c.args.at n)) number
     ∙ ap (λ (n : ℕ). frames_of c.self.inside.frames.items (set c.self.inside.cells.items n c.args.number)) (at.value ∙ i) ∙ fs in

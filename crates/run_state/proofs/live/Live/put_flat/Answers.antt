@@ -3,7 +3,7 @@ use Rattle.pml_store.specs.Writing.{joined, HasIndex}
 use Rattle.flat_code.proofs.Laying.{index-within}
 use Rattle.run_state.proofs.Holding.{held_still}
 use Rattle.run_state.proofs.Fitting.{set_at_stays}
-use Rattle.run_state.proofs.flat.Live.put_flat.Goals as goal
+use Rattle.run_state.proofs.live.Live.put_flat.Goals as goal
 
 pub index-at-requires : goal.index-at-requires
 index-at-requires c =

@@ -1,6 +1,6 @@
 use Rattle.std.proofs.Common.{rules, ◌≡◌, Some, slice_get}
 use Rattle.run_state.proofs.Fitting.{codes_there}
-use Rattle.run_state.proofs.flat.Live.code.Goals as goal
+use Rattle.run_state.proofs.live.Live.code.Goals as goal
 
 pub returns-in-Some : goal.returns-in-Some
 returns-in-Some c =

@@ -1,5 +1,5 @@
 use Rattle.run_state.proofs.Fitting.{fitted}
-use Rattle.run_state.proofs.flat.Live.fits.Goals as goal
+use Rattle.run_state.proofs.live.Live.fits.Goals as goal
 
 pub returns : goal.returns
 returns c =
