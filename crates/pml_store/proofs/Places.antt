@@ -1,5 +1,5 @@
 -- A place among the cells of one vector.
-use Rattle.std.proofs.Common.{◌≡◌, ℕ, zero, suc, ◌+◌, ◌<◌, ◌≤◌, List, [], ◌∷◌, ◌++◌, length, get_or, take, drop, map, ℤ, pos, refl, sym, ap, ◌∙◌, arith, append_assoc, append-nil, length-append, length-drop, length-take, drop-drop}
+use Rattle.std.proofs.Common.{◌≡◌, ℕ, zero, suc, ◌+◌, ◌<◌, ◌≤◌, List, [], ◌∷◌, ◌++◌, length, get_or, take, drop, map, ℤ, pos, refl, sym, ap, subst, ◌∙◌, arith, append_assoc, append-nil, length-append, length-drop, length-take, drop-drop}
 use Rattle.std.proofs.Math.ListN.{get_or-map}
 use Rattle.std.proofs.lemmas.List.{length-map, get_or-drop, get_or-take, take-append-drop, drop_all}
 use Rattle.promela_process.specs.declared.place.Place.{Place}
@@ -164,3 +164,11 @@ is_index os cells p h there =
       within = omega (arith, f.within, j);
       holds = ap (λ (x : List ℤ). get_or x ((extent_at os p).start + p.cell) (pos 0)) (joined_is os cells h) ∙ sym (number_is os cells p there);
     }
+
+-- an index at which a place stands
+pub at_index : (os : List FrameExtents) (cells : List ℤ) (p : Place) (i : ℕ) → IsLaid os cells → HasPlace (frames_of os cells) p → index_of (frames_of os cells) p ≡ i → IsIndex (frames_of os cells) p i
+at_index os cells p i h there e = subst (IsIndex (frames_of os cells) p) (sym (index_is os cells p h there) ∙ e) (is_index os cells p h there)
+
+-- where a frame begins
+pub base_is : (os : List FrameExtents) (cells : List ℤ) (o : ℕ) → IsLaid os cells → o < length os → (frame_extents_at os o).base ≡ length (joined (take o (frames_of os cells)))
+base_is os cells o h l = let e = joined_len_to os cells 0 o h.lie (omega (arith, h.cover)) l in omega (arith, e)

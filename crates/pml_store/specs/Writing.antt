@@ -32,6 +32,16 @@ index_of frames p = length (joined (take p.frame frames)) + (length (flat (take 
 abbrev pub stored : Contents → Place → ℤ → Contents
 stored s p v = record s { frames = with_number s.frames p v; written = s.written ++ (index_of s.frames p, number_at s.frames p) ∷ [] }
 
+-- an index at which a place stands
+pub record HasIndex (frames : List Frame) (at : ℕ) : Type 0 where
+  pub place : Place
+  pub there : HasPlace frames place
+  pub stands : index_of frames place ≡ at
+
+-- the place at an index has another number
+abbrev pub StoredAt : Contents → ℕ → ℤ → Contents → Type 0
+StoredAt old at v new = (p : Place) → HasPlace old.frames p → index_of old.frames p ≡ at → new ≡ stored old p v
+
 -- without the youngest frame
 abbrev pub but_last : List Frame → List Frame
 but_last frames = take (length frames - 1) frames

@@ -1,8 +1,8 @@
 //! All numbers in one vector, the youngest frame last.
 
-ghost use Rattle.std.specs.Prelude.{◌≡◌, ◌+◌, ◌<◌, ◌≤◌, ◌++◌, ◌∷◌, [], length, OnOk, OnErr, IfOk, sum, slice_index_or, pos};
+ghost use Rattle.std.specs.Prelude.{◌≡◌, ◌+◌, ◌<◌, ◌≤◌, ◌++◌, ◌∷◌, [], length, OnOk, OnErr, IfOk, sum, slice_index_or, pos, take};
 ghost use Rattle.promela_process.specs.Store.{number_at, size_at, zeros};
-ghost use Rattle.pml_store.specs.Writing.{HasPlace, index_of, stored, before, joined, but_last};
+ghost use Rattle.pml_store.specs.Writing.{HasIndex, HasPlace, StoredAt, index_of, stored, before, joined, but_last};
 ghost use Rattle.pml_store.specs.Laid.{nowhere, extent_of, extents_of};
 
 use promela_process::place::Place;
@@ -76,6 +76,24 @@ impl Store {
         extent.start as usize + place.cell
     }
 
+    /// The number in a cell, by its index among all.
+    #[inline(always)]
+    pub fn cell(&self, index: usize) -> i32
+        requires { index < length (joined self.now.frames) }
+        ensures { result ≡ slice_index_or (joined self.now.frames) index (pos 0) }
+    {
+        self.cells[index]
+    }
+
+    /// Where the cells of a frame begin among all.
+    #[inline(always)]
+    pub fn base(&self, frame: usize) -> usize
+        requires { frame < length self.now.frames }
+        ensures { result ≡ length (joined (take frame self.now.frames)) }
+    {
+        self.frames[frame].base
+    }
+
     /// How many cells a variable has: none where it is not there.
     pub fn size(&self, frame: usize, variable: usize) -> usize
         ensures { result ≡ size_at self.now.frames frame variable }
@@ -95,6 +113,21 @@ impl Store {
         let before = self.cells[at];
         self.written.reserve(1)?;
         self.written.push_reserved((at as u32, before));
+        self.cells[at] = number;
+        Ok(())
+    }
+
+    /// Stores a number in a cell, by its index among all. Want of memory changes nothing.
+    #[inline(always)]
+    pub fn set_cell(&mut self, at: usize, number: i32) -> Result<(), AllocError>
+        requires { HasIndex self.old.frames at }
+        ensures ok { OnOk result (StoredAt self.old at number self.new) }
+        ensures err { OnErr result (self.new ≡ self.old) }
+        ensures past { before self.new ≡ before self.old }
+    {
+        let old = self.cells[at];
+        self.written.reserve(1)?;
+        self.written.push_reserved((at as u32, old));
         self.cells[at] = number;
         Ok(())
     }

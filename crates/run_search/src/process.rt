@@ -2,9 +2,10 @@
 
 #![tactic(auto, using(crate::proofs::Keeping::kept_on, crate::proofs::Keeping::kept_same, crate::proofs::Keeping::kept_push))]
 
-ghost use Rattle.std.specs.Prelude.{◌≡◌, ◌++◌, ◌<◌, OnOk, length};
+ghost use Rattle.std.specs.Prelude.{◌≡◌, ◌++◌, ◌<◌, Some, OnOk, length, slice_get};
 ghost use Rattle.run_search.specs.Kept.{Extends};
-ghost use Rattle.run_state.specs.Standing.{IsBody, shows};
+ghost use Rattle.run_state.specs.Coded.{HasBody};
+ghost use Rattle.run_state.specs.Standing.{stand_of, IsBody, shows};
 ghost use Rattle.promela_run.specs.Moves.{is_else as else_of, only_if};
 ghost use Rattle.run_search.specs.Round.{IsKnown, round_plain_for, round_plain, else_on, round_on, round_down, round_at};
 ghost use Rattle.promela_run.specs.declared.moves.Move.TheVariants.{Alone};
@@ -32,6 +33,7 @@ fn add_plain_by(
     requires known { IsKnown round.now }
     requires there { offer.process < length round.now.live.now.state.stands }
     requires body { IsBody body.now }
+    requires stands { HasBody round.now.live.now.state offer.process body.now }
     ensures added { OnOk result (moves.new.items ≡ moves.old.items ++ round_plain_for round.now body.now offer edge.now) }
     ensures kept { Extends moves.new.items moves.old.items }
 {
@@ -59,6 +61,7 @@ fn add_plain(
     requires known { IsKnown round.now }
     requires there { tier.process < length round.now.live.now.state.stands }
     requires body { IsBody body.now }
+    requires stands { HasBody round.now.live.now.state tier.process body.now }
     ensures added { OnOk result (moves.new.items ≡ moves.old.items ++ round_plain round.now body.now tier edges.now) }
     ensures kept { Extends moves.new.items moves.old.items }
 {
@@ -117,6 +120,7 @@ pub(crate) fn add_moves_on(
     requires known { IsKnown round.now }
     requires there { tier.process < length round.now.live.now.state.stands }
     requires body { IsBody body.now }
+    requires stands { HasBody round.now.live.now.state tier.process body.now }
     ensures added { OnOk result (moves.new.items ≡ moves.old.items ++ round_on round.now body.now tier edges.now) }
     ensures kept { Extends moves.new.items moves.old.items }
 {
@@ -140,6 +144,7 @@ fn add_moves_down(
     requires known { IsKnown round.now }
     requires there { process < length round.now.live.now.state.stands }
     requires body { IsBody body.now }
+    requires stands { HasBody round.now.live.now.state process body.now }
     requires node { node < length body.now.graph.now.nodes }
     ensures added { OnOk result (moves.new.items ≡ moves.old.items ++ round_down round.now body.now process node) }
     ensures kept { Extends moves.new.items moves.old.items }
@@ -170,6 +175,7 @@ fn add_moves_in(
     requires known { IsKnown round.now }
     requires there { process < length round.now.live.now.state.stands }
     requires body { IsBody body.now }
+    requires stands { HasBody round.now.live.now.state process body.now }
     requires node { node < length body.now.graph.now.nodes }
     ensures added { OnOk result (moves.new.items ≡ moves.old.items ++ round_down round.now body.now process node) }
     ensures kept { Extends moves.new.items moves.old.items }
@@ -193,6 +199,7 @@ pub(crate) fn add_moves_at(
 ) -> Result<(), AllocError>
     requires known { IsKnown round.now }
     requires there { process < length round.now.live.now.state.stands }
+    requires stands { let s = round.now.live.now.state in slice_get s.stands process ≡ Some (stand_of s.program seat) }
     ensures added { OnOk result (moves.new.items ≡ moves.old.items ++ round_at round.now process seat) }
     ensures kept { Extends moves.new.items moves.old.items }
 {

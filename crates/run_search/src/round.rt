@@ -4,6 +4,9 @@
 
 ghost use Rattle.std.specs.Prelude.{◌≡◌, ◌++◌, ◌+◌, ◌<◌, ◌∷◌, true, false, Some, [], OnOk, length};
 ghost use Rattle.run_search.specs.Kept.{Extends};
+ghost use Rattle.pml_program.specs.declared.program.Action.TheVariants.{Holds};
+ghost use Rattle.pml_program.specs.declared.program.Basic.{Plain};
+ghost use Rattle.run_state.specs.Coded.{HasBody, IsNumbered};
 ghost use Rattle.run_state.specs.Standing.{IsBody, shows};
 ghost use Rattle.run_search.specs.Viewed.{IsSilent};
 ghost use Rattle.run_search.specs.Listeners.{AreKnown};
@@ -20,6 +23,7 @@ use crate::lent::lent;
 use crate::listeners::{Known, Span};
 use crate::message::{Message, message_over};
 use crate::rendezvous::{Sending, add_pairs};
+use pml_eval::eval::eval;
 use pml_flow::edge::Edge;
 use pml_program::expr::{Expr, Target};
 use pml_program::program::{Action, Basic};
@@ -154,6 +158,37 @@ fn can_act(live: &Live<'_, '_>, timeout: bool, process: usize, action: &Action<'
     can_be_taken(&view, live.is_lossy(), false, action)
 }
 
+/// Whether a condition of a process without a flat code holds, or comes to a fault.
+#[inline(never)]
+fn holds_slowly(live: &Live<'_, '_>, timeout: bool, process: usize, value: &Expr) -> bool
+    requires { process < length live.now.state.stands }
+    ensures { result ≡ can live.now.state.lossy live.now.state.channels (reads live.now.state process timeout) false (Holds value.now) }
+{
+    match eval(value, &live.view(process, timeout)) {
+        Ok(number) => number != 0,
+        Err(_) => true,
+    }
+}
+
+/// Whether a condition of a process holds, or comes to a fault, by its number: at once, where it has a flat code.
+#[inline(always)]
+fn holds(
+    live: &Live<'_, '_>,
+    timeout: bool,
+    process: usize,
+    value: &Expr,
+    statement: usize,
+) -> bool
+    requires there { process < length live.now.state.stands }
+    requires numbered { IsNumbered live.now.state process statement (Some (Plain (Holds value.now))) }
+    ensures { result ≡ can live.now.state.lossy live.now.state.channels (reads live.now.state process timeout) false (Holds value.now) }
+{
+    match live.can_flat(process, statement) {
+        Some(can) => can,
+        None => holds_slowly(live, timeout, process, value),
+    }
+}
+
 /// Whether an offer of a process, mostly a d_step, is a move by itself.
 #[inline(never)]
 fn can_begin_alone(
@@ -182,9 +217,13 @@ fn goes_alone(
 ) -> bool
     requires there { process < length live.now.state.stands }
     requires body { IsBody body.now }
+    requires stands { HasBody live.now.state process body.now }
     ensures { result ≡ alone_at live.now.state timeout body.now process edge.now }
 {
     match body.basic(*edge) {
+        Some(Basic::Plain(Action::Holds(value))) => {
+            holds(live, timeout, process, value, edge.statement)
+        }
         Some(Basic::Plain(action)) => can_act(live, timeout, process, action),
         _ => can_begin_alone(live, &lent(body), timeout, process, edge),
     }
@@ -201,6 +240,7 @@ fn add_other(
 ) -> Result<(), AllocError>
     requires there { offer.process < length round.now.live.now.state.stands }
     requires body { IsBody body.now }
+    requires stands { HasBody round.now.live.now.state offer.process body.now }
     requires silent { IsSilent (shows body.now edge.now).basic }
     ensures added { OnOk result (moves.new.items ≡ moves.old.items ++ round_for round.now body.now offer edge.now) }
     ensures kept { Extends moves.new.items moves.old.items }
@@ -223,6 +263,7 @@ pub(crate) fn add_asked(
     requires known { IsKnown round.now }
     requires there { offer.process < length round.now.live.now.state.stands }
     requires body { IsBody body.now }
+    requires stands { HasBody round.now.live.now.state offer.process body.now }
     ensures added { OnOk result (moves.new.items ≡ moves.old.items ++ round_for round.now body.now offer edge.now) }
     ensures kept { Extends moves.new.items moves.old.items }
 {

@@ -3,9 +3,10 @@
 
 #![tactic(auto, using(crate::proofs::Keeping::kept_on, crate::proofs::Keeping::kept_same, crate::proofs::Keeping::kept_push))]
 
-ghost use Rattle.std.specs.Prelude.{◌≡◌, ◌++◌, ◌-◌, ◌<◌, ◌≤◌, true, false, [], OnOk, length, take};
+ghost use Rattle.std.specs.Prelude.{◌≡◌, ◌++◌, ◌-◌, ◌<◌, ◌≤◌, true, false, [], Some, OnOk, length, slice_get, take};
 ghost use Rattle.run_search.specs.Kept.{Extends};
-ghost use Rattle.run_state.specs.Standing.{IsBody};
+ghost use Rattle.run_state.specs.Coded.{HasBody};
+ghost use Rattle.run_state.specs.Standing.{stand_of, IsBody};
 ghost use Rattle.promela_run.specs.Moves.{moves_held, moves as all_moves};
 ghost use Rattle.run_search.specs.First.{AreFirst, moves_from, moves_of_level};
 ghost use Rattle.run_search.specs.Round.{IsKnown, round_under, live_under};
@@ -125,6 +126,7 @@ fn add_moves_by(
     moves: &mut Vec<Move>,
 ) -> Result<(), AllocError>
     requires there { process < length live.now.state.stands }
+    requires stands { let s = live.now.state in slice_get s.stands process ≡ Some (stand_of s.program seat) }
     requires first { AreFirst live.now.state (moves_from live.now.state process seat) }
     ensures added { OnOk result (moves.new.items ≡ moves.old.items ++ all_moves live.now.state) }
     ensures kept { Extends moves.new.items moves.old.items }
@@ -156,6 +158,7 @@ fn add_moves_after(
 ) -> Result<(), AllocError>
     requires there { process < length live.now.state.stands }
     requires body { IsBody body.now }
+    requires stands { HasBody live.now.state process body.now }
     requires first { AreFirst live.now.state (moves_of_level live.now.state body.now process edges.now) }
     requires so_far { place ≤ length moves.old.items }
     ensures added { OnOk result (moves.new.items ≡ take (length moves.old.items - place) moves.old.items ++ all_moves live.now.state) }
@@ -188,6 +191,7 @@ fn add_moves_at_once(
 ) -> Result<(), AllocError>
     requires there { process < length live.now.state.stands }
     requires body { IsBody body.now }
+    requires stands { HasBody live.now.state process body.now }
     requires first { AreFirst live.now.state (moves_of_level live.now.state body.now process edges.now) }
     ensures added { OnOk result (moves.new.items ≡ moves.old.items ++ all_moves live.now.state) }
     ensures kept { Extends moves.new.items moves.old.items }
@@ -213,6 +217,7 @@ fn add_moves_first(
     moves: &mut Vec<Move>,
 ) -> Result<(), AllocError>
     requires there { process < length live.now.state.stands }
+    requires stands { let s = live.now.state in slice_get s.stands process ≡ Some (stand_of s.program seat) }
     requires first { AreFirst live.now.state (moves_from live.now.state process seat) }
     ensures added { OnOk result (moves.new.items ≡ moves.old.items ++ all_moves live.now.state) }
     ensures kept { Extends moves.new.items moves.old.items }

@@ -50,7 +50,7 @@ all_stay s (g ∷ gs) =
     let r = all_stay (stored s g.place g.number) gs in
     record { shape = r.shape ∙ shape-with_number s.frames g.place g.number; most = r.most }
 
-same_stays : (old new : Contents) → new ≡ old → Stays old new
+pub same_stays : (old new : Contents) → new ≡ old → Stays old new
 same_stays old new e = record { shape = ap (λ (c : Contents). shape c.frames) e; most = ap (λ (c : Contents). c.most) e }
 
 all_are : (old new : Contents) (gs : List Goes) → new ≡ stored_all old gs → Stays old new

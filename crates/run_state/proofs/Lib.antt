@@ -7,3 +7,6 @@ pub mod Holding
 pub mod Stored
 pub mod Creating
 pub mod Counting
+pub mod Tables
+pub mod Fitting
+pub mod Numbering

@@ -3,6 +3,8 @@
 
 pub mod body;
 mod channels;
+mod coding;
+mod flat;
 pub mod live;
 mod messages;
 pub mod played;

@@ -50,9 +50,9 @@ use std::marker::Model;
 /// what there was when its step began.
 #[derive(Drop)]
 pub struct Live<'p, 'a> {
-    played: Played<'p, 'a>,
-    started: Started,
-    seats: Vec<Seat>,
+    pub(crate) played: Played<'p, 'a>,
+    pub(crate) started: Started,
+    pub(crate) seats: Vec<Seat>,
     holder: Option<usize>,
     lossy: bool,
 }

@@ -3,12 +3,17 @@
 ghost use Rattle.std.specs.Prelude.{◌≡◌, IfOk, IfSome, map, option_map, slice_get};
 ghost use Rattle.std.specs.Option.{option_copied};
 ghost use Rattle.pml_flow.specs.Graph.{AreGraphs};
-ghost use Rattle.promela_run.specs.State.{body_of, begins_at};
+ghost use Rattle.promela_run.specs.State.{body_of, begins_at, variables_at};
+ghost use Rattle.run_state.specs.Coded.{basic_in, statements_at};
+ghost use Rattle.flat_code.specs.Flat.{IsCodeOf};
 ghost use Rattle.run_state.specs.Held.{sorts_of};
 ghost use Rattle.run_state.specs.Standing.{stand_of, statements_of, IsBody};
 
 use crate::body::Body;
+use crate::coding::{code_at, codes_of_all};
 use crate::seat::Seat;
+use flat_code::code::Code;
+use flat_code::codes::Codes;
 use pml_flow::graph::Graph;
 use pml_flow::statements::{Statements, all_statements};
 use pml_program::program::{Proctype, Program};
@@ -17,13 +22,14 @@ use run_start::Beginnings;
 use std::alloc::{AllocError, Global};
 use std::marker::Model;
 
-/// A model that is played: its tables and what its typedefs begin with, and the graphs and the statements of its proctypes, in their
-/// order. Contracts see the program.
+/// A model that is played: its tables and what its typedefs begin with, and the graphs, the statements and their flat
+/// codes of its proctypes, in their order. Contracts see the program.
 #[derive(Drop)]
 pub struct Played<'p, 'a> {
     beginnings: Beginnings<'p, 'a>,
     graphs: &'p [Graph],
     statements: Vec<Statements<'p, 'a>>,
+    flat: Vec<Codes>,
 }
 
 impl<'p, 'a> Model for Played<'p, 'a> {
@@ -34,7 +40,7 @@ impl<'p, 'a> Model for Played<'p, 'a> {
     ghost use Rattle.pml_program.specs.contracts.expr.Expr as worth;
     ghost use Rattle.pml_program.specs.contracts.program.Seq as seq;
     ghost use Rattle.pml_program.specs.contracts.program.Basic as basic;
-    ghost use Rattle.run_state.specs.Standing.{IsPlayed};
+    ghost use Rattle.run_state.specs.Coded.{IsPrepared};
 
     ghost Value = { Program };
 
@@ -42,7 +48,7 @@ impl<'p, 'a> Model for Played<'p, 'a> {
 
     ghost view = { λ m. m.beginnings };
 
-    ghost invariant = { λ m. IsPlayed m.beginnings m.graphs.now m.statements.items };
+    ghost invariant = { λ m. IsPrepared m.beginnings m.graphs.now m.statements.items m.flat.items };
 }
 
 /// The statements of each proctype.
@@ -83,7 +89,7 @@ pub fn proctype_at<'p, 'a>(program: &'p Program<'a>, sort: usize) -> Option<&'p 
 }
 
 /// The body of the proctype with this number.
-fn body_at<'w, 'p, 'a>(
+pub(crate) fn body_at<'w, 'p, 'a>(
     program: &'p Program<'a>,
     graphs: &'p [Graph],
     statements: &'w [Statements<'p, 'a>],
@@ -114,11 +120,13 @@ impl<'p, 'a> Played<'p, 'a> {
         ensures { IfOk result (λ m. m ≡ program.now) }
     {
         let statements = statements_of_all(alloc, program.proctypes.as_slice())?;
+        let flat = codes_of_all(alloc, program, graphs, statements.as_slice())?;
         let beginnings = Beginnings::new(alloc, program)?;
         Ok(Played {
             beginnings,
             graphs,
             statements,
+            flat,
         })
     }
 
@@ -162,6 +170,15 @@ impl<'p, 'a> Played<'p, 'a> {
             self.statements.as_slice(),
             sort,
         )
+    }
+
+    /// The flat code of a statement of a proctype, by their numbers.
+    #[inline(always)]
+    pub fn code(&self, sort: usize, statement: usize) -> Option<&Code>
+        ensures { IfSome result (λ code. IsCodeOf self.now.globals (variables_at self.now sort)
+            (basic_in (statements_at self.now sort) statement) code.now) }
+    {
+        code_at(self.flat.as_slice(), sort, statement)
     }
 
     /// A process of the proctype with this number before its first statement.

@@ -1,17 +1,19 @@
 //! What a statement does by itself.
 
-ghost use Rattle.std.specs.Prelude.{◌≡◌, ◌<◌, OnOk, OnErr, length};
+ghost use Rattle.std.specs.Prelude.{◌≡◌, ◌<◌, Some, OnOk, OnErr, length};
 ghost use Rattle.std.specs.Io.{StartsWith};
 ghost use Rattle.std.specs.Option.{option_copied};
 ghost use Rattle.pml_program.specs.declared.program.Action.TheVariants.{Printf, Printm};
 ghost use Rattle.promela_run.specs.Statements.{asserted};
 ghost use Rattle.promela_run.specs.State.{reads};
 ghost use Rattle.promela_run.specs.Steps.{ran, run_number, run_into as runs_into, does as does_by, effect as effect_of};
+ghost use Rattle.pml_program.specs.declared.program.Basic.{Plain};
+ghost use Rattle.run_state.specs.Coded.{IsNumbered};
 ghost use Rattle.run_state.specs.Live.{Leads, Joins, PastGrows};
 ghost use Rattle.run_step.specs.Done.{Does, Grows};
 
 use crate::arguments::{goes_to, values_of};
-use crate::storing::{ask, assign};
+use crate::storing::store;
 use diagnostics::{Fault, Stop};
 use pml_eval::eval::eval;
 use pml_program::expr::{Expr, Target};
@@ -193,17 +195,19 @@ fn does_at_once(
     process: usize,
     timeout: bool,
     action: &Action<'_>,
+    statement: usize,
     text: &mut Vec<u8>,
 ) -> Result<(), Stop>
-    requires { process < length live.old.state.stands }
+    requires there { process < length live.old.state.stands }
+    requires numbered { IsNumbered live.old.state process statement (Some (Plain action.now)) }
     ensures value { Does (does_by live.old.state process timeout action.now) result live.new.state text.old.items text.new.items }
     ensures grows { Grows result live.old live.new text.old.items text.new.items }
 {
     match action {
-        Action::Assign(Some(target), value) => assign(live, process, timeout, target, value),
         Action::Else | Action::Holds(Expr::Number(_)) => Ok(()),
-        Action::Holds(value) => ask(live, process, timeout, value),
-        Action::Increment(_) | Action::Decrement(_) => live.store(process, timeout, action),
+        Action::Assign(_, _) | Action::Holds(_) => store(live, process, timeout, action, statement),
+        Action::Increment(_) => store(live, process, timeout, action, statement),
+        Action::Decrement(_) => store(live, process, timeout, action, statement),
         _ => does(live, process, timeout, action, text),
     }
 }
@@ -216,14 +220,18 @@ pub fn effect(
     process: usize,
     timeout: bool,
     basic: Option<&Basic<'_>>,
+    statement: usize,
     text: &mut Vec<u8>,
 ) -> Result<(), Stop>
-    requires { process < length live.old.state.stands }
+    requires there { process < length live.old.state.stands }
+    requires numbered { IsNumbered live.old.state process statement (option_copied basic.entry) }
     ensures value { Does (effect_of live.old.state process timeout (option_copied basic.entry)) result live.new.state text.old.items text.new.items }
     ensures grows { Grows result live.old live.new text.old.items text.new.items }
 {
     match basic {
-        Some(Basic::Plain(action)) => does_at_once(live, process, timeout, action, text),
+        Some(Basic::Plain(action)) => {
+            does_at_once(live, process, timeout, action, statement, text)
+        }
         _ => Ok(()),
     }
 }

@@ -8,5 +8,4 @@ pub mod laws;
 pub mod pair;
 mod storing;
 pub mod take;
-mod value;
 pub mod within;

@@ -2,10 +2,12 @@
 
 ghost use Rattle.std.specs.Prelude.{◌≡◌, ◌<◌, ℕ, List, None, IfSome, OnOk, OnErr, length};
 ghost use Rattle.std.specs.Io.{StartsWith};
+ghost use Rattle.std.specs.Option.{option_copied};
 ghost use Rattle.promela_run.specs.State.{picked as picks};
 ghost use Rattle.promela_run.specs.declared.moves.Move.TheVariants.{Alone, Pair};
 ghost use Rattle.profile.specs.declared.TheConstants.{MOST_DSTEP_STATEMENTS};
 ghost use Rattle.run_step.specs.Done.{Does, Grows};
+ghost use Rattle.run_state.specs.Coded.{IsNumbered};
 ghost use Rattle.run_state.specs.Live.{Joins, PastGrows};
 ghost use Rattle.promela_run.specs.Steps.{after_move};
 ghost use Rattle.run_step.specs.Taking.{IsOffer, DoesWithin, DoesOffer, CanDie, PastBy};
@@ -31,6 +33,7 @@ struct Offer<'p, 'a> {
 #[inline(always)]
 fn find_offer<'p, 'a>(live: &Live<'p, 'a>, pick: Pick) -> Option<Offer<'p, 'a>>
     ensures some { IfSome result (λ o. IsOffer live.now.state pick o) }
+    ensures numbered { IfSome result (λ o. IsNumbered live.now.state pick.process o.edge.now.statement (option_copied o.basic)) }
     ensures none { result ≡ None → picks live.now.state pick ≡ None }
 {
     let offered = picked(live, pick)?;
@@ -67,14 +70,22 @@ fn take_offer(
     offer: &Offer<'_, '_>,
     text: &mut Vec<u8>,
 ) -> Result<(), Stop>
-    requires { IsOffer live.old.state pick offer.now }
+    requires offer { IsOffer live.old.state pick offer.now }
+    requires numbered { IsNumbered live.old.state pick.process offer.now.edge.now.statement (option_copied offer.now.basic) }
     ensures value { let s = live.old.state in
         DoesOffer MOST_DSTEP_STATEMENTS s pick timeout result live.new.state text.old.items text.new.items }
     ensures grows { Grows result live.old live.new text.old.items text.new.items }
 {
     match offer.basic {
         Some(Basic::DStep(_)) => inside(live, pick, timeout, offer.edge.entry, text),
-        _ => effect(live, pick.process, timeout, offer.basic, text),
+        _ => effect(
+            live,
+            pick.process,
+            timeout,
+            offer.basic,
+            offer.edge.statement,
+            text,
+        ),
     }
 }
 

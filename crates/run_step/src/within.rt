@@ -5,6 +5,7 @@ ghost use Rattle.std.specs.Io.{StartsWith};
 ghost use Rattle.std.specs.Option.{option_copied};
 ghost use Rattle.run_state.specs.Standing.{IsBody};
 ghost use Rattle.profile.specs.declared.TheConstants.{MOST_DSTEP_STATEMENTS};
+ghost use Rattle.run_state.specs.Coded.{IsNumbered};
 ghost use Rattle.run_state.specs.Live.{Joins, PastGrows};
 ghost use Rattle.run_step.specs.Done.{Grows};
 ghost use Rattle.promela_run.specs.Steps.{body_by};
@@ -29,10 +30,11 @@ enum Inner {
     At(usize),
 }
 
-/// A statement that is chosen, without its labels; the node that follows, and whether that lies inside.
+/// A statement that is chosen, without its labels; its number, the node that follows, and whether that lies inside.
 #[derive(Drop)]
 struct Choice<'p, 'a> {
     basic: Option<&'p Basic<'a>>,
+    statement: usize,
     next: usize,
     stays: bool,
 }
@@ -54,12 +56,14 @@ fn chosen<'p, 'a>(
     node: usize,
 ) -> Option<Choice<'p, 'a>>
     requires { process < length live.now.state.stands }
-    ensures { ChoosesAt live.now.state process timeout node result }
+    ensures value { ChoosesAt live.now.state process timeout node result }
+    ensures numbered { IfSome result (λ k. IsNumbered live.now.state process k.statement (option_copied k.basic)) }
 {
     let body = body_in(live, process)?;
     let edge = choice(&live.view(process, timeout), live.is_lossy(), &body, node)?;
     Some(Choice {
         basic: body.basic(edge),
+        statement: edge.statement,
         next: edge.target,
         stays: edge.stays,
     })
@@ -82,7 +86,14 @@ fn advance(
     let Some(choice) = chosen(live, process, timeout, node) else {
         return Err(Stop::Fault(Fault::DStepBlocks));
     };
-    effect(live, process, timeout, choice.basic, text)?;
+    effect(
+        live,
+        process,
+        timeout,
+        choice.basic,
+        choice.statement,
+        text,
+    )?;
     if choice.stays {
         return Ok(Inner::At(choice.next));
     }

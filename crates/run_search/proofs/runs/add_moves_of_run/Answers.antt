@@ -35,3 +35,8 @@ returns-else-process-end-clause-added c =
     let is : c.next_elsewhere-end.result ≡ n + 1 = omega (arith, c.if-process-end.false, c.next_elsewhere-end.ensures.behind) in
     ap (λ (k : ℕ). mid ++ round_behind r k) is
     ∙ one_behind r x n mid old (old ++ round_behind r n) (seat_there r.live.now.state c.seats.result.now n d c.seats.ensures c.requires.there) added refl
+
+pub add_moves_at-requires-clause-stands : goal.add_moves_at-requires-clause-stands
+add_moves_at-requires-clause-stands c =
+    let d : Seat = record { sort = 0; node = 0 } in
+    seat_there c.args.round.now.live.now.state c.seats.result.now c.args.process d c.seats.ensures c.requires.there

@@ -1,0 +1,114 @@
+//! Statements that are taken by their flat code.
+
+ghost use Rattle.std.specs.Prelude.{◌≡◌, ◌<◌, None, IfSome, length};
+ghost use Rattle.flat_code.specs.Flat.{base_of, index, worth, AreIn};
+ghost use Rattle.pml_store.specs.Writing.{joined, HasIndex};
+ghost use Rattle.run_state.specs.Coded.{IsCodeIn};
+ghost use Rattle.run_state.specs.Flatly.{AnswersCan, FitsIn, PutsAt, StoresBy};
+ghost use Rattle.run_state.specs.Live.{Keeps};
+
+use crate::live::Live;
+use crate::seat::seat_at;
+use diagnostics::{Fault, Stop};
+use flat_code::code::{Cell, Code, Worth};
+use flat_code::run::{index, worth};
+use pml_eval::clip::clip;
+use pml_program::form::Form;
+use pml_tree::tree::Scalar;
+
+impl Live<'_, '_> {
+    /// The flat code of a statement of a process, by their numbers.
+    #[inline(always)]
+    fn code(&self, process: usize, statement: usize) -> Option<&Code>
+        ensures { IfSome result (λ code. IsCodeIn self.now.state process statement code.now) }
+    {
+        match seat_at(self.seats.as_slice(), process) {
+            Some(seat) => self.played.code(seat.sort, statement),
+            None => None,
+        }
+    }
+
+    /// The frames of the globals and of a process are as they are declared.
+    #[inline(always)]
+    fn fits(&self, process: usize)
+        requires { process < length self.now.state.stands }
+        ensures { FitsIn self.now.state process }
+    {
+        let _count = self.seats.len();
+    }
+
+    /// What flat code is worth to a process.
+    #[inline(always)]
+    fn flat_worth(&self, process: usize, value: &Worth) -> Result<i32, Fault>
+        requires process { process < length self.now.state.stands }
+        requires there { AreIn (joined self.now.state.frames) (base_of self.now.state.frames process) value.now }
+        ensures { result ≡ worth (joined self.now.state.frames) (base_of self.now.state.frames process) value.now }
+    {
+        let store = &self.started.store;
+        worth(store, store.base(process + 1), value)
+    }
+
+    /// Stores what a word keeps of a number in a cell.
+    #[inline(always)]
+    fn put_flat(
+        &mut self,
+        process: usize,
+        word: Scalar,
+        cell: Cell,
+        number: i32,
+    ) -> Result<(), Stop>
+        requires process { process < length self.old.state.stands }
+        requires there { HasIndex self.old.state.frames (index (base_of self.old.state.frames process) cell) }
+        ensures value { PutsAt self.old.state (index (base_of self.old.state.frames process) cell) word number result self.new.state }
+        ensures keeps { Keeps self.old self.new }
+    {
+        let store = &self.started.store;
+        let at = index(store, store.base(process + 1), cell);
+        match self.started.store.set_cell(at, clip(Form::Plain(word), number)) {
+            Ok(()) => Ok(()),
+            Err(_) => Err(Stop::Memory),
+        }
+    }
+
+    /// Whether the statement with this number can be taken by itself by a process, if it has a flat code.
+    #[inline(always)]
+    pub fn can_flat(&self, process: usize, statement: usize) -> Option<bool>
+        requires { process < length self.now.state.stands }
+        ensures { IfSome result (AnswersCan self.now.state process statement) }
+    {
+        self.fits(process);
+        match self.code(process, statement) {
+            Some(Code::Set(_, _, _)) => Some(true),
+            Some(Code::Ask(value)) => match self.flat_worth(process, value) {
+                Err(_) => Some(true),
+                Ok(number) => Some(number != 0),
+            },
+            _ => None,
+        }
+    }
+
+    /// Takes the statement with this number as `store` does, if it has a flat code.
+    #[inline(always)]
+    pub fn store_flat(&mut self, process: usize, statement: usize) -> Option<Result<(), Stop>>
+        requires { process < length self.old.state.stands }
+        ensures value { IfSome result (StoresBy self.old.state process statement self.new.state) }
+        ensures nothing { result ≡ None → self.new ≡ self.old }
+        ensures keeps { Keeps self.old self.new }
+    {
+        self.fits(process);
+        match self.code(process, statement) {
+            Some(Code::Set(word, cell, value)) => match self.flat_worth(process, value) {
+                Err(fault) => Some(Err(Stop::Fault(fault))),
+                Ok(number) => {
+                    let (word, cell) = (*word, *cell);
+                    Some(self.put_flat(process, word, cell, number))
+                }
+            },
+            Some(Code::Ask(value)) => match self.flat_worth(process, value) {
+                Err(fault) => Some(Err(Stop::Fault(fault))),
+                Ok(_) => Some(Ok(())),
+            },
+            _ => None,
+        }
+    }
+}
