@@ -13,7 +13,7 @@ ghost use Rattle.run_state.specs.Live.{Leads, Joins, PastGrows};
 ghost use Rattle.run_step.specs.Done.{Does, Grows};
 
 use crate::arguments::{goes_to, values_of};
-use crate::storing::store;
+use crate::storing::{ask, assign, count};
 use diagnostics::{Fault, Stop};
 use pml_eval::eval::eval;
 use pml_program::expr::{Expr, Target};
@@ -204,10 +204,13 @@ fn does_at_once(
     ensures grows { Grows result live.old live.new text.old.items text.new.items }
 {
     match action {
+        Action::Assign(Some(target), value) => {
+            assign(live, process, timeout, target, value, statement)
+        }
         Action::Else | Action::Holds(Expr::Number(_)) => Ok(()),
-        Action::Assign(_, _) | Action::Holds(_) => store(live, process, timeout, action, statement),
-        Action::Increment(_) => store(live, process, timeout, action, statement),
-        Action::Decrement(_) => store(live, process, timeout, action, statement),
+        Action::Holds(value) => ask(live, process, timeout, value, statement),
+        Action::Increment(_) => count(live, process, timeout, action, statement),
+        Action::Decrement(_) => count(live, process, timeout, action, statement),
         _ => does(live, process, timeout, action, text),
     }
 }

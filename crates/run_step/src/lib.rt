@@ -8,4 +8,5 @@ pub mod laws;
 pub mod pair;
 mod storing;
 pub mod take;
+mod value;
 pub mod within;
