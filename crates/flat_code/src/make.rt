@@ -90,11 +90,7 @@ fn worth_of(globals: &Owner<'_, '_>, locals: &Owner<'_, '_>, value: &Expr) -> Op
 }
 
 /// The cell of a target that keeps a word, and which word.
-fn kept(
-    globals: &Owner<'_, '_>,
-    locals: &Owner<'_, '_>,
-    target: &Target,
-) -> Option<(Scalar, Cell)>
+fn kept(globals: &Owner<'_, '_>, locals: &Owner<'_, '_>, target: &Target) -> Option<(Scalar, Cell)>
     ensures { IfSome result (λ k. IsKept globals.now locals.now target.now k.0 k.1) }
 {
     let Form::Plain(word) = target.form else {

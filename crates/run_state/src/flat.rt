@@ -64,7 +64,11 @@ impl Live<'_, '_> {
     {
         let store = &self.started.store;
         let at = index(store, store.base(process + 1), cell);
-        match self.started.store.set_cell(at, clip(Form::Plain(word), number)) {
+        match self
+            .started
+            .store
+            .set_cell(at, clip(Form::Plain(word), number))
+        {
             Ok(()) => Ok(()),
             Err(_) => Err(Stop::Memory),
         }

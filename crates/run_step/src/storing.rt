@@ -146,12 +146,7 @@ pub(crate) fn assign(
 
 /// Takes a condition without a flat code: a fault of its value is one of the step.
 #[inline(always)]
-fn ask_slowly(
-    live: &Live<'_, '_>,
-    process: usize,
-    timeout: bool,
-    value: &Expr,
-) -> Result<(), Stop>
+fn ask_slowly(live: &Live<'_, '_>, process: usize, timeout: bool, value: &Expr) -> Result<(), Stop>
     requires { process < length live.now.state.stands }
     ensures { let s = live.now.state in
         Leads (put_by s (outcome (Holds value.now) (reads s process timeout))) result s }
