@@ -1,5 +1,5 @@
 -- What comes of tokens in which macros are named, by rules: C11 6.10.3 for macros without `#` and `##`.
-use Rattle.std.specs.Prelude.{◌≡◌, ℕ, ◌+◌, ◌-◌, Bool, true, false, not, ◌&&◌, nat_eq, nat_le, if◌then◌else◌, List, [], ◌∷◌, ◌++◌, length, take, map, All, Option, None, Some, slice_index_or, slice_get, option_and_then, option_map, reverse, Result, OnOk}
+use Rattle.std.specs.Prelude.{◌≡◌, ℕ, ◌+◌, ◌-◌, Bool, true, false, not, ◌&&◌, ◌||◌, nat_eq, nat_le, if◌then◌else◌, List, [], ◌∷◌, ◌++◌, length, take, map, All, Option, None, Some, slice_index_or, slice_get, option_and_then, option_map, reverse, Result, OnOk}
 use Rattle.std.specs.List.{list_any, flat_map}
 use Rattle.std.specs.Ordering.{nat_cmp}
 use Rattle.std.specs.BTreeMap.{get}
@@ -169,6 +169,30 @@ is_wanted_in k (p ∷ ps) = if asks k p.role then true else is_wanted_in k ps
 
 abbrev pub is_wanted : Rule → ℕ → Bool
 is_wanted m k = is_wanted_in k m.body
+
+-- a token that is nothing
+abbrev pub is_gone : Atom → Bool
+is_gone a = same_sort a.sort sort.Gone
+
+abbrev pub stands : Atom → Bool
+stands a = not (is_gone a)
+
+-- what stands for an empty argument beside `##`
+abbrev pub gone : FilePlace → Atom → Atom
+gone p a = record { sort = sort.Gone; text = a.text; is_spaced = a.is_spaced; is_painted = false; place = a.place; call = p }
+
+-- an argument as it is, beside `##`
+abbrev pub as_it_is : FilePlace → BodyToken → List Atom → List Atom
+as_it_is p part [] = gone p part.atom ∷ []
+as_it_is p part (a ∷ xs) = fronted part.atom.is_spaced (a ∷ xs)
+
+-- a token in quotes
+abbrev pub is_in_quotes : AtomSort → Bool
+is_in_quotes s = same_sort s sort.Quoted || same_sort s sort.Character
+
+-- a byte of a token in a string: in quotes, a quote and a backslash stand behind a backslash
+abbrev pub escaped : Bool → ℕ → List ℕ
+escaped quotes b = if quotes && (nat_eq b 34 || nat_eq b 92) then 92 ∷ b ∷ [] else b ∷ []
 
 -- no `#` and no `##`
 abbrev pub IsPlainRole : Substitution → Type 0

@@ -1,6 +1,6 @@
 //! Texts by their numbers: equal texts have one number.
 
-ghost use Rattle.std.specs.Prelude.{◌≡◌, IfOk};
+ghost use Rattle.std.specs.Prelude.{◌≡◌, [], IfOk};
 ghost use Rattle.std.specs.Bool.{OnTrue};
 ghost use Rattle.pml_macros.specs.Texts.{IsText, Keeps, text_in};
 
@@ -16,7 +16,9 @@ pub struct Book {
 
 impl Book {
     /// A book without a text.
-    pub fn new(alloc: Global) -> Book {
+    pub fn new(alloc: Global) -> Book
+        ensures { result.texts.items ≡ [] }
+    {
         Book {
             texts: Vec::new(alloc),
             numbers: BTreeMap::new(alloc),

@@ -1,8 +1,10 @@
 //! The lexeme that stands at the front of a text, as a preprocessor cuts it.
 
-ghost use Rattle.std.specs.Prelude.{◌≤◌, ◌<◌, length, IfSome};
+ghost use Rattle.std.specs.Prelude.{◌≡◌, ◌≤◌, ◌<◌, false, None, length, IfSome};
+ghost use Rattle.pml_macros.specs.Calls as rules;
+ghost use Rattle.pml_macros.specs.Cut as cut;
 
-use crate::atom::AtomSort;
+use crate::atom::{AtomSort, same_sort};
 
 /// What a lexeme is.
 #[derive(Clone, Copy, Debug, PartialEq, Eq)]
@@ -16,20 +18,28 @@ pub enum PreprocessingLexeme {
 }
 
 /// Whether a byte is a digit.
-pub fn is_digit(b: u8) -> bool {
+pub fn is_digit(b: u8) -> bool
+    ensures { result ≡ cut.is_digit b }
+{
     b'0' <= b && b <= b'9'
 }
 
 /// Whether a byte may begin a name.
-pub fn is_letter(b: u8) -> bool {
+pub fn is_letter(b: u8) -> bool
+    ensures { result ≡ cut.is_letter b }
+{
     (b'a' <= b && b <= b'z') || ((b'A' <= b && b <= b'Z') || b == b'_')
 }
 
-fn is_blank(b: u8) -> bool {
+fn is_blank(b: u8) -> bool
+    ensures { result ≡ cut.is_blank b }
+{
     b == b' ' || (b'\t' <= b && b <= b'\r')
 }
 
-fn is_name_byte(b: u8) -> bool {
+fn is_name_byte(b: u8) -> bool
+    ensures { result ≡ cut.is_name_byte b }
+{
     is_letter(b) || is_digit(b)
 }
 
@@ -138,26 +148,31 @@ fn slash(text: &[u8]) -> (usize, PreprocessingLexeme)
 }
 
 /// Whether two bytes are one sign.
-fn is_sign_of_two(a: u8, b: u8) -> bool {
+fn is_sign_of_two(a: u8, b: u8) -> bool
+    ensures { result ≡ cut.is_sign_of_two a b }
+{
     if b == b'=' {
-        a == b'=' || a == b'!' || a == b'<' || a == b'>'
+        matches!(a, b'=' | b'!' | b'<' | b'>')
     } else if a == b'-' {
-        b == b'>' || b == b'-'
+        matches!(b, b'>' | b'-')
     } else {
-        a == b
-            && (a == b':'
-                || a == b'.'
-                || a == b'+'
-                || a == b'<'
-                || a == b'>'
-                || a == b'&'
-                || a == b'|'
-                || a == b'!'
-                || a == b'?')
+        a == b && is_doubled(a)
     }
 }
 
-fn sort_of_one(b: u8) -> AtomSort {
+/// Whether a sign stands twice in one.
+fn is_doubled(a: u8) -> bool
+    ensures { result ≡ cut.is_doubled a }
+{
+    match a {
+        b':' | b'.' | b'+' | b'<' | b'>' | b'&' | b'|' | b'!' | b'?' => true,
+        _ => false,
+    }
+}
+
+fn sort_of_one(b: u8) -> AtomSort
+    ensures { result ≡ cut.sort_of_one b }
+{
     if b == b'(' {
         AtomSort::OpenParen
     } else if b == b')' {
@@ -217,7 +232,10 @@ pub fn next(text: &[u8]) -> (usize, PreprocessingLexeme)
 }
 
 /// What a text is, if it is one token.
-pub fn sort_of_whole(text: &[u8]) -> Option<AtomSort> {
+pub fn sort_of_whole(text: &[u8]) -> Option<AtomSort>
+    ensures empty { length text.now ≡ 0 → result ≡ None }
+    ensures one { IfSome result (λ sort. rules.same_sort sort AtomSort.Stray ≡ false) }
+{
     if text.is_empty() {
         return None;
     }
@@ -226,8 +244,7 @@ pub fn sort_of_whole(text: &[u8]) -> Option<AtomSort> {
         return None;
     }
     match lexeme {
-        PreprocessingLexeme::Token(AtomSort::Stray) => None,
-        PreprocessingLexeme::Token(sort) => Some(sort),
+        PreprocessingLexeme::Token(sort) if !same_sort(sort, AtomSort::Stray) => Some(sort),
         _ => None,
     }
 }

@@ -1,6 +1,6 @@
 //! The macros that are known.
 
-ghost use Rattle.std.specs.Prelude.{◌≡◌, option_map, is_some};
+ghost use Rattle.std.specs.Prelude.{◌≡◌, ℕ, map, option_map, is_some, None, Some, IfOk, OnOk};
 ghost use Rattle.pml_macros.specs.Calls.{known, rule_of};
 
 use crate::atom::Atom;
@@ -47,7 +47,9 @@ pub struct MacroTable {
 
 impl MacroTable {
     /// No macro.
-    pub fn new(alloc: Global) -> MacroTable {
+    pub fn new(alloc: Global) -> MacroTable
+        ensures { (name : ℕ) → known result name ≡ None }
+    {
         MacroTable {
             macros: Vec::new(alloc),
             places: BTreeMap::new(alloc),
@@ -72,12 +74,16 @@ impl MacroTable {
     }
 
     /// Whether a macro of this name is known.
-    pub fn knows(&self, name: usize) -> bool {
-        self.places.contains_key(&name)
+    pub fn knows(&self, name: usize) -> bool
+        ensures { result ≡ is_some (known self.now name) }
+    {
+        self.find(name).is_some()
     }
 
     /// The names of all that were defined.
-    pub fn names(&self) -> Result<Vec<usize>, AllocError> {
+    pub fn names(&self) -> Result<Vec<usize>, AllocError>
+        ensures { IfOk result (λ names. names.items ≡ map (λ m. m.name) self.now.macros.items) }
+    {
         let mut names = Vec::new(*self.macros.allocator());
         for made in &self.macros {
             names.push(made.name)?;
@@ -86,7 +92,9 @@ impl MacroTable {
     }
 
     /// Makes a macro known, in place of one of its name.
-    pub fn define(&mut self, made: Macro) -> Result<(), AllocError> {
+    pub fn define(&mut self, made: Macro) -> Result<(), AllocError>
+        ensures { OnOk result (known self.new made.name ≡ Some (rule_of made)) }
+    {
         let place = self.macros.len();
         let name = made.name;
         self.macros.push(made)?;
@@ -95,7 +103,9 @@ impl MacroTable {
     }
 
     /// Makes a macro unknown.
-    pub fn forget(&mut self, name: usize) {
+    pub fn forget(&mut self, name: usize)
+        ensures { known self.new name ≡ None }
+    {
         self.places.remove(&name);
     }
 }

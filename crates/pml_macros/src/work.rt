@@ -1,5 +1,7 @@
 //! What is known while calls are replaced.
 
+ghost use Rattle.std.specs.Prelude.{◌≡◌};
+
 use crate::book::Book;
 use std::alloc::Global;
 
@@ -12,7 +14,9 @@ pub struct Work {
 
 impl Work {
     /// No text yet, and so many tokens.
-    pub fn new(alloc: Global, left: usize) -> Work {
+    pub fn new(alloc: Global, left: usize) -> Work
+        ensures { result.left ≡ left }
+    {
         Work {
             book: Book::new(alloc),
             left,

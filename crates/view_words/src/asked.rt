@@ -1,5 +1,8 @@
 //! What a command line asks for.
 
+ghost use Rattle.std.specs.Prelude.{◌≡◌};
+ghost use Rattle.view_words.specs.Read.{fits_together};
+
 /// What is shown without a session.
 #[derive(Clone, Copy, Debug, PartialEq, Eq)]
 pub enum RunForm {
@@ -55,7 +58,9 @@ pub struct Wishes {
 
 impl Wishes {
     /// Whether the options of preparing fit together: the files of another that prepared the model are of no use beside it.
-    pub fn fits_together(&self) -> bool {
+    pub fn fits_together(&self) -> bool
+        ensures { result ≡ fits_together self.now }
+    {
         if self.prepare {
             self.source.is_none() && self.lines.is_none()
         } else {

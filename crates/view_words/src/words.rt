@@ -1,5 +1,13 @@
 //! The words of the command line.
 
+ghost use Rattle.std.specs.Prelude.{◌≡◌, ◌∷◌, [], None, IfOk, codes, map, true, unwrap_or};
+ghost use Rattle.std.specs.Option.{option_map};
+ghost use Rattle.std.specs.String.{string_bytes};
+ghost use Rattle.clap.specs.Words.{first_value, found_of, matched_of, one_text, raw_values, rule_of};
+ghost use Rattle.view_words.specs.CommandLine.{counted_word, counted_letter, file_rule, appended_letter, number_rule, limit_rule};
+ghost use Rattle.view_words.specs.CommandLine.{model_rule, IsArgument, IsNamed, IsApart};
+ghost use Rattle.view_words.specs.Read.{is_of_lines, shown, IsRead};
+
 use crate::asked::{RunForm, Wishes};
 use crate::help::{HELP, VERSION};
 use clap::{Arg, ArgAction, ArgMatches, Command, Error, value_parser};
@@ -9,12 +17,18 @@ use std::alloc::{AllocError, Global};
 const USUAL_LIMIT: u32 = 1_000_000;
 
 // A flag that may be repeated.
-fn flag<'a>(alloc: Global, id: &'a str) -> Arg<'a> {
+fn flag<'a>(alloc: Global, id: &'a str) -> Arg<'a>
+    ensures rule { rule_of result ≡ counted_word id.entry.now }
+    ensures plain { IsArgument id.entry.now result }
+{
     Arg::new(alloc, id).long(id).action(ArgAction::Count)
 }
 
 // An option with a file behind it.
-fn file<'a>(alloc: Global, id: &'a str) -> Arg<'a> {
+fn file<'a>(alloc: Global, id: &'a str) -> Arg<'a>
+    ensures rule { rule_of result ≡ file_rule id.entry.now }
+    ensures plain { IsArgument id.entry.now result }
+{
     Arg::new(alloc, id)
         .long(id)
         .action(ArgAction::Set)
@@ -22,7 +36,10 @@ fn file<'a>(alloc: Global, id: &'a str) -> Arg<'a> {
 }
 
 // An option with a name behind it.
-fn name<'a>(alloc: Global) -> Arg<'a> {
+fn name<'a>(alloc: Global) -> Arg<'a>
+    ensures rule { rule_of result ≡ file_rule (codes "name") }
+    ensures plain { IsArgument (codes "name") result }
+{
     Arg::new(alloc, "name")
         .long("name")
         .action(ArgAction::Set)
@@ -30,7 +47,10 @@ fn name<'a>(alloc: Global) -> Arg<'a> {
 }
 
 // An option with a name behind it that may stand several times.
-fn appended<'a>(alloc: Global, id: &'a str, letter: char) -> Arg<'a> {
+fn appended<'a>(alloc: Global, id: &'a str, letter: char) -> Arg<'a>
+    ensures rule { rule_of result ≡ appended_letter id.entry.now letter }
+    ensures plain { IsArgument id.entry.now result }
+{
     Arg::new(alloc, id)
         .short(letter)
         .action(ArgAction::Append)
@@ -38,14 +58,18 @@ fn appended<'a>(alloc: Global, id: &'a str, letter: char) -> Arg<'a> {
 }
 
 // The flag of a run that goes on by lines, which has no other form.
-fn asks<'a>(alloc: Global) -> Result<Arg<'a>, AllocError> {
+fn asks<'a>(alloc: Global) -> Result<Arg<'a>, AllocError>
+    ensures { IfOk result (IsApart (counted_word (codes "ask")) (codes "chart" ∷ codes "page" ∷ [])) }
+{
     flag(alloc, "ask")
         .conflicts_with("chart")?
         .conflicts_with("page")
 }
 
 // The option of a run whose lines begin behind a step; it has no other form.
-fn from<'a>(alloc: Global) -> Result<Arg<'a>, AllocError> {
+fn from<'a>(alloc: Global) -> Result<Arg<'a>, AllocError>
+    ensures { IfOk result (IsApart (number_rule (codes "from")) (codes "chart" ∷ codes "page" ∷ [])) }
+{
     Arg::new(alloc, "from")
         .long("from")
         .action(ArgAction::Set)
@@ -56,14 +80,19 @@ fn from<'a>(alloc: Global) -> Result<Arg<'a>, AllocError> {
 }
 
 // The flag of a run that a program drives, which has no other form.
-fn serves<'a>(alloc: Global) -> Result<Arg<'a>, AllocError> {
+fn serves<'a>(alloc: Global) -> Result<Arg<'a>, AllocError>
+    ensures { IfOk result (IsApart (counted_word (codes "serve")) (codes "ask" ∷ codes "chart" ∷ codes "page" ∷ [])) }
+{
     flag(alloc, "serve")
         .conflicts_with("ask")?
         .conflicts_with("chart")?
         .conflicts_with("page")
 }
 
-fn seed<'a>(alloc: Global) -> Arg<'a> {
+fn seed<'a>(alloc: Global) -> Arg<'a>
+    ensures rule { rule_of result ≡ number_rule (codes "random") }
+    ensures plain { IsArgument (codes "random") result }
+{
     Arg::new(alloc, "random")
         .long("random")
         .action(ArgAction::Set)
@@ -71,7 +100,10 @@ fn seed<'a>(alloc: Global) -> Arg<'a> {
         .value_parser(value_parser!(u32))
 }
 
-fn limit<'a>(alloc: Global) -> Arg<'a> {
+fn limit<'a>(alloc: Global) -> Arg<'a>
+    ensures rule { rule_of result ≡ limit_rule }
+    ensures plain { IsArgument (codes "u") result }
+{
     Arg::new(alloc, "u")
         .short('u')
         .action(ArgAction::Set)
@@ -79,17 +111,25 @@ fn limit<'a>(alloc: Global) -> Arg<'a> {
         .value_parser(value_parser!(u32))
 }
 
-fn lossy<'a>(alloc: Global) -> Arg<'a> {
+fn lossy<'a>(alloc: Global) -> Arg<'a>
+    ensures rule { rule_of result ≡ counted_letter (codes "m") 109 }
+    ensures plain { IsArgument (codes "m") result }
+{
     Arg::new(alloc, "m").short('m').action(ArgAction::Count)
 }
 
-fn model<'a>(alloc: Global) -> Arg<'a> {
+fn model<'a>(alloc: Global) -> Arg<'a>
+    ensures rule { rule_of result ≡ model_rule }
+    ensures plain { IsArgument (codes "MODEL") result }
+{
     Arg::new(alloc, "MODEL")
         .required(true)
         .action(ArgAction::Set)
 }
 
-fn spinview<'a>(alloc: Global) -> Command<'a> {
+fn spinview<'a>(alloc: Global) -> Command<'a>
+    ensures { IsNamed result }
+{
     Command::new(alloc, "spinview")
         .version(VERSION)
         .override_help(HELP)
@@ -121,29 +161,42 @@ fn command<'a>(alloc: Global) -> Result<Command<'a>, AllocError> {
 }
 
 // The text of an option, on the heap.
-fn text_of(
-    alloc: Global,
-    matches: &ArgMatches<'_>,
-    id: &str,
-) -> Result<Option<String>, AllocError> {
+fn text_of(alloc: Global, matches: &ArgMatches<'_>, id: &str) -> Result<Option<String>, AllocError>
+    ensures { IfOk result (λ o. option_map string_bytes o ≡ first_value (found_of matches.now) id.now) }
+{
     match matches.get_str(id) {
         Some(text) => Ok(Some(String::from_str(alloc, text)?)),
         None => Ok(None),
     }
 }
 
-// All texts of an option, on the heap.
-fn texts_of(alloc: Global, matches: &ArgMatches<'_>, id: &str) -> Result<Vec<String>, AllocError> {
+// Texts, on the heap.
+fn owned(alloc: Global, texts: &[&str]) -> Result<Vec<String>, AllocError>
+    ensures { IfOk result (λ v. map string_bytes v.items ≡ map (λ t. t.now) texts.now) }
+{
     let mut all = Vec::new(alloc);
-    if let Some(texts) = matches.get_strs(id) {
-        for text in texts {
-            all.push(String::from_str(alloc, text)?)?;
-        }
+    let mut rest = texts;
+    while let [text, behind @ ..] = rest {
+        all.push(String::from_str(alloc, text)?)?;
+        rest = behind;
     }
     Ok(all)
 }
 
-fn form_of(matches: &ArgMatches<'_>) -> RunForm {
+// All texts of an option, on the heap.
+fn texts_of(alloc: Global, matches: &ArgMatches<'_>, id: &str) -> Result<Vec<String>, AllocError>
+    ensures { IfOk result (λ v. map string_bytes v.items ≡ unwrap_or (option_map raw_values (matched_of (found_of matches.now) id.now)) []) }
+{
+    match matches.get_strs(id) {
+        Some(texts) => owned(alloc, texts),
+        None => Ok(Vec::new(alloc)),
+    }
+}
+
+fn form_of(matches: &ArgMatches<'_>) -> RunForm
+    ensures lines { is_of_lines (found_of matches.now) ≡ true → result ≡ RunForm.Json }
+    ensures others { one_text (found_of matches.now) (codes "from") ≡ None → result ≡ shown (found_of matches.now) }
+{
     let goes_on = matches.get_count("ask") > 0 || matches.get_count("serve") > 0;
     let is_behind = matches.get_one::<u32>("from").is_some();
     if matches.get_count("json") > 0 || goes_on || is_behind {
@@ -156,7 +209,9 @@ fn form_of(matches: &ArgMatches<'_>) -> RunForm {
 }
 
 /// What the words of a command line ask for. The first word is the program's name.
-pub fn read<'a>(alloc: Global, words: &'a [&'a str]) -> Result<Wishes, Error> {
+pub fn read<'a>(alloc: Global, words: &'a [&'a str]) -> Result<Wishes, Error>
+    ensures { IfOk result IsRead }
+{
     let matches = command(alloc)?.try_get_matches_from(words)?;
     let model = String::from_str(alloc, matches.get_str("MODEL").unwrap_or(""))?;
     let choices = text_of(alloc, &matches, "choices")?;
