@@ -25,14 +25,14 @@ use Rattle.promela_run.specs.State.{size, reading_of}
 use Rattle.promela_run.specs.Statements.{goes_to, increased, outcome}
 use Rattle.pml_store.specs.Writing.{flat, joined}
 use Rattle.pml_store.proofs.Back.{has_cell}
-use Rattle.flat_code.specs.declared.code.Cell.{Cell}
-use Rattle.flat_code.specs.declared.code.Cell.TheVariants.{Global, Local}
+use Rattle.flat_code.specs.declared.code.FlatCell.{FlatCell}
+use Rattle.flat_code.specs.declared.code.FlatCell.TheVariants.{Global, Local}
 use Rattle.flat_code.specs.declared.code.Operand.{Operand}
 use Rattle.flat_code.specs.declared.code.Operand.TheVariants as operand
-use Rattle.flat_code.specs.declared.code.Worth.{Worth}
-use Rattle.flat_code.specs.declared.code.Worth.TheVariants.{Plain, Pair}
-use Rattle.flat_code.specs.declared.code.Code.{Code}
-use Rattle.flat_code.specs.declared.code.Code.TheVariants.{Set, Ask}
+use Rattle.flat_code.specs.declared.code.FlatWorth.{FlatWorth}
+use Rattle.flat_code.specs.declared.code.FlatWorth.TheVariants.{Plain, Pair}
+use Rattle.flat_code.specs.declared.code.FlatCode.{FlatCode}
+use Rattle.flat_code.specs.declared.code.FlatCode.TheVariants.{Set, Ask}
 use Rattle.flat_code.specs.Flat.{index, number, held, worth, cells_in, start, base_of, IsIn, Leads, IsPlain, IsCell, IsOperand, IsWorth, IsKept, IsCode, IsCounted}
 use Rattle.flat_code.proofs.Laying.{flat_length, index-within, index-holds}
 
@@ -114,22 +114,22 @@ decides op.Or x y = or-decides (is_zero x) (is_zero y)
 decides _ x y = refl
 
 -- what a cell holds is a number of its place
-number-held : (cells : List ℤ) (base : ℕ) (c : Cell) → number cells base (held c) ≡ get_or cells (index base c) (pos 0)
+number-held : (cells : List ℤ) (base : ℕ) (c : FlatCell) → number cells base (held c) ≡ get_or cells (index base c) (pos 0)
 number-held cells base (Global i) = refl
 number-held cells base (Local i) = refl
 
-in-held : (cells : List ℤ) (base : ℕ) (c : Cell) → index base c < length cells → IsIn cells base (held c)
+in-held : (cells : List ℤ) (base : ℕ) (c : FlatCell) → index base c < length cells → IsIn cells base (held c)
 in-held cells base (Global i) h = h
 in-held cells base (Local i) h = h
 
-module _ (frames : List Frame) (base : ℕ) (r : Reading) (t : Target) (c : Cell) (l : Leads frames base r t c) where
+module _ (frames : List Frame) (base : ℕ) (r : Reading) (t : Target) (c : FlatCell) (l : Leads frames base r t c) where
   held-there : number (joined frames) base (held c) ≡ number_at frames l.at
   held-there = number-held (joined frames) base c ∙ ap (λ (n : ℕ). get_or (joined frames) n (pos 0)) (sym l.stands) ∙ index-holds frames l.at l.there
 
   held-within : IsIn (joined frames) base (held c)
   held-within = in-held (joined frames) base c (subst (λ (n : ℕ). n < length (joined frames)) l.stands (index-within frames l.at l.there))
 
-pub read : (gs ls : List Slot) (t : Target) (c : Cell) → IsCell gs ls t c → IsOperand gs ls (e.Read t) (held c)
+pub read : (gs ls : List Slot) (t : Target) (c : FlatCell) → IsCell gs ls t c → IsOperand gs ls (e.Read t) (held c)
 read gs ls t c is frames cs process count timeout fits =
     let r : Reading = reading_of frames cs process count timeout in
     let l = is frames cs process count timeout fits in
@@ -171,7 +171,7 @@ kept-there : (t : Target) (word : Scalar) (r : Reading) (p : Place) (o : Result 
     → (o >>= λ n. goes_to (Some t) n r) ≡ (o >>= λ n. Ok (Some (record { place = p; number = clipped (Kept word) n })))
 kept-there t word r p o f h = goes-there t r p o h ∙ ap (λ (form : Form). o >>= λ n. Ok (Some (record { place = p; number = clipped form n }))) f
 
-pub sets : (gs ls : List Slot) (t : Target) (x : Expr) (word : Scalar) (c : Cell) (v : Worth) → IsKept gs ls t word c → IsWorth gs ls x v → IsCode gs ls (Assign (Some t) x) (Set word c v)
+pub sets : (gs ls : List Slot) (t : Target) (x : Expr) (word : Scalar) (c : FlatCell) (v : FlatWorth) → IsKept gs ls t word c → IsWorth gs ls x v → IsCode gs ls (Assign (Some t) x) (Set word c v)
 sets gs ls t x word c v is comes frames cs process count timeout fits =
     let r : Reading = reading_of frames cs process count timeout in
     let l = is.1 frames cs process count timeout fits in
@@ -189,7 +189,7 @@ sets gs ls t x word c v is comes frames cs process count timeout fits =
 increased-is : (t : Target) (by : ℤ) (r : Reading) (p : Place) → place t r ≡ Ok p → increased t by r ≡ goes_to (Some t) (wrapped (r.holds p +ℤ by)) r
 increased-is t by r p h = ap (λ (o : Result Place Fault). o >>= λ p. goes_to (Some t) (wrapped (r.holds p +ℤ by)) r) h
 
-pub counts : (gs ls : List Slot) (t : Target) (by : ℤ) (word : Scalar) (c : Cell) → IsKept gs ls t word c → IsCounted gs ls t by (Set word c (Pair op.Plus (held c) (operand.Number by)))
+pub counts : (gs ls : List Slot) (t : Target) (by : ℤ) (word : Scalar) (c : FlatCell) → IsKept gs ls t word c → IsCounted gs ls t by (Set word c (Pair op.Plus (held c) (operand.Number by)))
 counts gs ls t by word c is x adds free frames cs process count timeout fits =
     let r : Reading = reading_of frames cs process count timeout in
     let l = is.1 frames cs process count timeout fits in
@@ -212,13 +212,13 @@ adds-one t r = refl
 pub takes-one : (t : Target) (r : Reading) → outcome (Decrement t) r ≡ increased t (negsuc 0) r
 takes-one t r = refl
 
-pub counts_up : (gs ls : List Slot) (t : Target) (code : Code) → IsCounted gs ls t (pos 1) code → IsCode gs ls (Increment t) code
+pub counts_up : (gs ls : List Slot) (t : Target) (code : FlatCode) → IsCounted gs ls t (pos 1) code → IsCode gs ls (Increment t) code
 counts_up gs ls t code is = is (Increment t) (adds-one t) (λ lossy cs r d. refl)
 
-pub counts_down : (gs ls : List Slot) (t : Target) (code : Code) → IsCounted gs ls t (negsuc 0) code → IsCode gs ls (Decrement t) code
+pub counts_down : (gs ls : List Slot) (t : Target) (code : FlatCode) → IsCounted gs ls t (negsuc 0) code → IsCode gs ls (Decrement t) code
 counts_down gs ls t code is = is (Decrement t) (takes-one t) (λ lossy cs r d. refl)
 
-pub asks : (gs ls : List Slot) (x : Expr) (v : Worth) → IsWorth gs ls x v → IsCode gs ls (Holds x) (Ask v)
+pub asks : (gs ls : List Slot) (x : Expr) (v : FlatWorth) → IsWorth gs ls x v → IsCode gs ls (Holds x) (Ask v)
 asks gs ls x v comes frames cs process count timeout fits =
     let g = comes frames cs process count timeout fits in
     record {

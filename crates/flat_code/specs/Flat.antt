@@ -18,19 +18,19 @@ use Rattle.promela_run.specs.declared.live_channel.LiveChannel.{LiveChannel}
 use Rattle.promela_run.specs.State.{size, reading_of}
 use Rattle.promela_run.specs.Statements.{increased, outcome}
 use Rattle.promela_run.specs.Moves.{ready}
-use Rattle.flat_code.specs.declared.code.Cell.{Cell}
-use Rattle.flat_code.specs.declared.code.Cell.TheVariants.{Global, Local}
+use Rattle.flat_code.specs.declared.code.FlatCell.{FlatCell}
+use Rattle.flat_code.specs.declared.code.FlatCell.TheVariants.{Global, Local}
 use Rattle.flat_code.specs.declared.code.Operand.{Operand}
 use Rattle.flat_code.specs.declared.code.Operand.TheVariants as operand
-use Rattle.flat_code.specs.declared.code.Worth.{Worth}
-use Rattle.flat_code.specs.declared.code.Worth.TheVariants.{Plain, Pair}
-use Rattle.flat_code.specs.declared.code.Code.{Code}
-use Rattle.flat_code.specs.declared.code.Code.TheVariants.{No, Set, Ask}
+use Rattle.flat_code.specs.declared.code.FlatWorth.{FlatWorth}
+use Rattle.flat_code.specs.declared.code.FlatWorth.TheVariants.{Plain, Pair}
+use Rattle.flat_code.specs.declared.code.FlatCode.{FlatCode}
+use Rattle.flat_code.specs.declared.code.FlatCode.TheVariants.{No, Set, Ask}
 
 -- ---- what it is worth, where all cells are these and those of the process begin here
 
 -- where a cell is among all
-abbrev pub index : ℕ → Cell → ℕ
+abbrev pub index : ℕ → FlatCell → ℕ
 index base (Global at) = at
 index base (Local at) = base + at
 
@@ -41,11 +41,11 @@ number cells base (operand.Global at) = slice_index_or cells at (pos 0)
 number cells base (operand.Local at) = slice_index_or cells (base + at) (pos 0)
 
 -- what a cell holds
-abbrev pub held : Cell → Operand
+abbrev pub held : FlatCell → Operand
 held (Global at) = operand.Global at
 held (Local at) = operand.Local at
 
-abbrev pub worth : List ℤ → ℕ → Worth → Result ℤ Fault
+abbrev pub worth : List ℤ → ℕ → FlatWorth → Result ℤ Fault
 worth cells base (Plain a) = Ok (number cells base a)
 worth cells base (Pair op a b) = infixed op (number cells base a) (number cells base b)
 
@@ -55,7 +55,7 @@ IsIn cells base (operand.Number n) = Unit {0}
 IsIn cells base (operand.Global at) = at < length cells
 IsIn cells base (operand.Local at) = base + at < length cells
 
-abbrev pub AreIn : List ℤ → ℕ → Worth → Type 0
+abbrev pub AreIn : List ℤ → ℕ → FlatWorth → Type 0
 AreIn cells base (Plain a) = IsIn cells base a
 AreIn cells base (Pair op a b) = IsIn cells base a × IsIn cells base b
 
@@ -89,13 +89,13 @@ IsPlain t cell = (r : Reading) → let x = out-Target t in cell < r.cells (r.fra
     → place t r ≡ Ok (record { frame = r.frame x.local; variable = x.variable; cell = cell })
 
 -- a target leads to the place at this cell
-pub record Leads (frames : List Frame) (base : ℕ) (r : Reading) (t : Target) (c : Cell) : Type 0 where
+pub record Leads (frames : List Frame) (base : ℕ) (r : Reading) (t : Target) (c : FlatCell) : Type 0 where
   pub at : Place
   pub leads : place t r ≡ Ok at
   pub there : HasPlace frames at
   pub stands : index_of frames at ≡ index base c
 
-abbrev pub IsCell : List Slot → List Slot → Target → Cell → Type 0
+abbrev pub IsCell : List Slot → List Slot → Target → FlatCell → Type 0
 IsCell gs ls t c = Always gs ls (λ frames base r. Leads frames base r t c)
 
 -- an expression is worth what an operand is
@@ -106,15 +106,15 @@ pub record Gives (frames : List Frame) (base : ℕ) (r : Reading) (e : Expr) (a 
 abbrev pub IsOperand : List Slot → List Slot → Expr → Operand → Type 0
 IsOperand gs ls e a = Always gs ls (λ frames base r. Gives frames base r e a)
 
-pub record Comes (frames : List Frame) (base : ℕ) (r : Reading) (e : Expr) (v : Worth) : Type 0 where
+pub record Comes (frames : List Frame) (base : ℕ) (r : Reading) (e : Expr) (v : FlatWorth) : Type 0 where
   pub value : val e r ≡ worth (joined frames) base v
   pub within : AreIn (joined frames) base v
 
-abbrev pub IsWorth : List Slot → List Slot → Expr → Worth → Type 0
+abbrev pub IsWorth : List Slot → List Slot → Expr → FlatWorth → Type 0
 IsWorth gs ls e v = Always gs ls (λ frames base r. Comes frames base r e v)
 
 -- a statement stores what is kept of a number, and waits for nothing
-pub record Stores (frames : List Frame) (base : ℕ) (r : Reading) (x : Action) (word : Scalar) (c : Cell) (v : Worth) : Type 0 where
+pub record Stores (frames : List Frame) (base : ℕ) (r : Reading) (x : Action) (word : Scalar) (c : FlatCell) (v : FlatWorth) : Type 0 where
   pub at : Place
   pub there : HasPlace frames at
   pub stands : index_of frames at ≡ index base c
@@ -123,31 +123,31 @@ pub record Stores (frames : List Frame) (base : ℕ) (r : Reading) (x : Action) 
   pub free : (lossy : Bool) (cs : List LiveChannel) (in_d_step : Bool) → ready lossy cs r in_d_step x ≡ Ok true
 
 -- a statement asks whether a number is not 0
-pub record Asks (frames : List Frame) (base : ℕ) (r : Reading) (x : Action) (v : Worth) : Type 0 where
+pub record Asks (frames : List Frame) (base : ℕ) (r : Reading) (x : Action) (v : FlatWorth) : Type 0 where
   pub within : AreIn (joined frames) base v
   pub does : outcome x r ≡ (worth (joined frames) base v >>= λ n. Ok None)
   pub asks : (lossy : Bool) (cs : List LiveChannel) (in_d_step : Bool) → ready lossy cs r in_d_step x ≡ (worth (joined frames) base v >>= λ n. Ok (not (is_zero n)))
 
 -- the code of a statement without a structure
-abbrev pub IsCode : List Slot → List Slot → Action → Code → Type 0
+abbrev pub IsCode : List Slot → List Slot → Action → FlatCode → Type 0
 IsCode gs ls x No = Unit {0}
 IsCode gs ls x (Set word c v) = Always gs ls (λ frames base r. Stores frames base r x word c v)
 IsCode gs ls x (Ask v) = Always gs ls (λ frames base r. Asks frames base r x v)
 
 -- a target keeps this word of a number, in this cell
-abbrev pub IsKept : List Slot → List Slot → Target → Scalar → Cell → Type 0
+abbrev pub IsKept : List Slot → List Slot → Target → Scalar → FlatCell → Type 0
 IsKept gs ls t word c = ((out-Target t).form ≡ Kept word) × IsCell gs ls t c
 
 -- the code of an assignment to a variable
-abbrev pub IsSet : List Slot → List Slot → Target → Expr → Code → Type 0
+abbrev pub IsSet : List Slot → List Slot → Target → Expr → FlatCode → Type 0
 IsSet gs ls t e code = IsCode gs ls (Assign (Some t) e) code
 
 -- the code of what adds this to a variable, and waits for nothing
-abbrev pub IsCounted : List Slot → List Slot → Target → ℤ → Code → Type 0
+abbrev pub IsCounted : List Slot → List Slot → Target → ℤ → FlatCode → Type 0
 IsCounted gs ls t by code = (x : Action) → ((r : Reading) → outcome x r ≡ increased t by r)
     → ((lossy : Bool) (cs : List LiveChannel) (r : Reading) (in_d_step : Bool) → ready lossy cs r in_d_step x ≡ Ok true) → IsCode gs ls x code
 
 -- the code of a statement: one that gives a structure, and a place where none is, has none
-abbrev pub IsCodeOf : List Slot → List Slot → Option Basic → Code → Type 0
+abbrev pub IsCodeOf : List Slot → List Slot → Option Basic → FlatCode → Type 0
 IsCodeOf gs ls (Some (Statement x)) code = IsCode gs ls x code
 IsCodeOf gs ls o code = code ≡ No

@@ -4,7 +4,7 @@ use pml_tree::tree::{Infix, Scalar};
 
 /// A cell: by its index among all, or counted from the first of its process.
 #[derive(Clone, Copy, Debug, PartialEq, Eq)]
-pub enum Cell {
+pub enum FlatCell {
     Global(u16),
     Local(u16),
 }
@@ -19,7 +19,7 @@ pub enum Operand {
 
 /// An operand, or two with an operator between them.
 #[derive(Clone, Copy, Debug, PartialEq, Eq)]
-pub enum Worth {
+pub enum FlatWorth {
     Plain(Operand),
     Pair(Infix, Operand, Operand),
 }
@@ -27,11 +27,11 @@ pub enum Worth {
 /// What a statement does: it stores what a type keeps of a number, or asks whether one is not 0. `No` says nothing of
 /// it.
 #[derive(Clone, Copy, Debug, PartialEq, Eq)]
-pub enum Code {
+pub enum FlatCode {
     No,
-    Set(Scalar, Cell, Worth),
-    Ask(Worth),
+    Set(Scalar, FlatCell, FlatWorth),
+    Ask(FlatWorth),
 }
 
 // A model may have as many of them as a text of 1 MB has statements.
-const _: () = prove!(size_of::<Code>() == 16);
+const _: () = prove!(size_of::<FlatCode>() == 16);

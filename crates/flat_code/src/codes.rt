@@ -3,21 +3,21 @@
 ghost use Rattle.std.specs.Prelude.{◌≡◌, ◌++◌, ◌∷◌, [], IfOk, OnOk, slice_get};
 ghost use Rattle.std.specs.Option.{option_copied};
 
-use crate::code::Code;
+use crate::code::FlatCode;
 use std::alloc::{AllocError, Global};
 use std::marker::Model;
 
 /// Codes by number.
 #[derive(Drop)]
 pub struct Codes {
-    list: Vec<Code>,
+    list: Vec<FlatCode>,
 }
 
 impl Model for Codes {
     ghost use Rattle.std.specs.Prelude.{List};
-    ghost use Rattle.flat_code.specs.declared.code.Code.{Code};
+    ghost use Rattle.flat_code.specs.declared.code.FlatCode.{FlatCode};
 
-    ghost Value = { List Code };
+    ghost Value = { List FlatCode };
 
     ghost view = { λ t. t.list.items };
 }
@@ -33,7 +33,7 @@ impl Codes {
     }
 
     /// Adds a code.
-    pub fn add(&mut self, code: Code) -> Result<(), AllocError>
+    pub fn add(&mut self, code: FlatCode) -> Result<(), AllocError>
         ensures { OnOk result (self.new ≡ self.old ++ code ∷ []) }
     {
         self.list.push(code)?;
@@ -42,7 +42,7 @@ impl Codes {
 
     /// The code with this number.
     #[inline(always)]
-    pub fn get(&self, number: usize) -> Option<&Code>
+    pub fn get(&self, number: usize) -> Option<&FlatCode>
         ensures { option_copied result ≡ slice_get self.now number }
     {
         self.list.get(number)

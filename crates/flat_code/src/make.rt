@@ -5,8 +5,8 @@ ghost use Rattle.std.specs.Option.{option_copied};
 ghost use Rattle.flat_code.specs.declared.code.Operand.TheVariants.{Number};
 ghost use Rattle.flat_code.specs.Flat.{held, IsPlain, IsCell, IsOperand, IsWorth, IsKept, IsCode, IsCodeOf, IsCounted, IsSet};
 
-use crate::code::{Cell, Code, Operand, Worth};
-use crate::owner::Owner;
+use crate::code::{FlatCell, FlatCode, FlatWorth, Operand};
+use crate::owner::FlatOwner;
 use pml_program::expr::{Expr, Target};
 use pml_program::form::Form;
 use pml_program::program::{Action, Basic};
@@ -24,30 +24,34 @@ fn plain(target: &Target) -> Option<usize>
 }
 
 /// The cell of a target without an index.
-fn cell_of(globals: &Owner<'_, '_>, locals: &Owner<'_, '_>, target: &Target) -> Option<Cell>
+fn cell_of(
+    globals: &FlatOwner<'_, '_>,
+    locals: &FlatOwner<'_, '_>,
+    target: &Target,
+) -> Option<FlatCell>
     ensures { IfSome result (λ cell. IsCell globals.now locals.now target.now cell) }
 {
     let cell = plain(target)?;
     if target.local {
         match locals.cell(target.variable, cell) {
-            Some(at) => Some(Cell::Local(at)),
+            Some(at) => Some(FlatCell::Local(at)),
             None => None,
         }
     } else {
         match globals.cell(target.variable, cell) {
-            Some(at) => Some(Cell::Global(at)),
+            Some(at) => Some(FlatCell::Global(at)),
             None => None,
         }
     }
 }
 
 /// What a cell holds.
-fn held(cell: Cell) -> Operand
+fn held(cell: FlatCell) -> Operand
     ensures { result ≡ held cell }
 {
     match cell {
-        Cell::Global(at) => Operand::Global(at),
-        Cell::Local(at) => Operand::Local(at),
+        FlatCell::Global(at) => Operand::Global(at),
+        FlatCell::Local(at) => Operand::Local(at),
     }
 }
 
@@ -63,7 +67,7 @@ fn small(number: i32) -> Option<Operand>
 }
 
 /// A small number or a variable.
-fn operand(globals: &Owner<'_, '_>, locals: &Owner<'_, '_>, value: &Expr) -> Option<Operand>
+fn operand(globals: &FlatOwner<'_, '_>, locals: &FlatOwner<'_, '_>, value: &Expr) -> Option<Operand>
     ensures { IfSome result (λ a. IsOperand globals.now locals.now value.now a) }
 {
     match value {
@@ -77,20 +81,28 @@ fn operand(globals: &Owner<'_, '_>, locals: &Owner<'_, '_>, value: &Expr) -> Opt
 }
 
 /// An operand, or two with an operator between them.
-fn worth_of(globals: &Owner<'_, '_>, locals: &Owner<'_, '_>, value: &Expr) -> Option<Worth>
+fn worth_of(
+    globals: &FlatOwner<'_, '_>,
+    locals: &FlatOwner<'_, '_>,
+    value: &Expr,
+) -> Option<FlatWorth>
     ensures { IfSome result (λ v. IsWorth globals.now locals.now value.now v) }
 {
     if let Expr::Binary(op, a, b) = value {
         let a = operand(globals, locals, a.get())?;
         let b = operand(globals, locals, b.get())?;
-        return Some(Worth::Pair(*op, a, b));
+        return Some(FlatWorth::Pair(*op, a, b));
     }
     let a = operand(globals, locals, value)?;
-    Some(Worth::Plain(a))
+    Some(FlatWorth::Plain(a))
 }
 
 /// The cell of a target that keeps a word, and which word.
-fn kept(globals: &Owner<'_, '_>, locals: &Owner<'_, '_>, target: &Target) -> Option<(Scalar, Cell)>
+fn kept(
+    globals: &FlatOwner<'_, '_>,
+    locals: &FlatOwner<'_, '_>,
+    target: &Target,
+) -> Option<(Scalar, FlatCell)>
     ensures { IfSome result (λ k. IsKept globals.now locals.now target.now k.0 k.1) }
 {
     let Form::Plain(word) = target.form else {
@@ -102,34 +114,38 @@ fn kept(globals: &Owner<'_, '_>, locals: &Owner<'_, '_>, target: &Target) -> Opt
 
 /// The code of an assignment.
 fn set(
-    globals: &Owner<'_, '_>,
-    locals: &Owner<'_, '_>,
+    globals: &FlatOwner<'_, '_>,
+    locals: &FlatOwner<'_, '_>,
     target: &Target,
     value: &Expr,
-) -> Option<Code>
+) -> Option<FlatCode>
     ensures { IfSome result (λ code. IsSet globals.now locals.now target.now value.now code) }
 {
     let (word, cell) = kept(globals, locals, target)?;
     let value = worth_of(globals, locals, value)?;
-    Some(Code::Set(word, cell, value))
+    Some(FlatCode::Set(word, cell, value))
 }
 
 /// The code of a statement that adds to a variable.
 fn counted(
-    globals: &Owner<'_, '_>,
-    locals: &Owner<'_, '_>,
+    globals: &FlatOwner<'_, '_>,
+    locals: &FlatOwner<'_, '_>,
     target: &Target,
     by: i16,
-) -> Option<Code>
+) -> Option<FlatCode>
     ensures { IfSome result (λ code. IsCounted globals.now locals.now target.now by code) }
 {
     let (word, cell) = kept(globals, locals, target)?;
-    let value = Worth::Pair(Infix::Plus, held(cell), Operand::Number(by));
-    Some(Code::Set(word, cell, value))
+    let value = FlatWorth::Pair(Infix::Plus, held(cell), Operand::Number(by));
+    Some(FlatCode::Set(word, cell, value))
 }
 
 /// The code of a statement without a structure, if there is one.
-fn code_in(globals: &Owner<'_, '_>, locals: &Owner<'_, '_>, action: &Action<'_>) -> Option<Code>
+fn code_in(
+    globals: &FlatOwner<'_, '_>,
+    locals: &FlatOwner<'_, '_>,
+    action: &Action<'_>,
+) -> Option<FlatCode>
     ensures { IfSome result (λ code. IsCode globals.now locals.now action.now code) }
 {
     match action {
@@ -138,21 +154,25 @@ fn code_in(globals: &Owner<'_, '_>, locals: &Owner<'_, '_>, action: &Action<'_>)
         Action::Decrement(target) => counted(globals, locals, target, -1),
         Action::Holds(value) => {
             let value = worth_of(globals, locals, value)?;
-            Some(Code::Ask(value))
+            Some(FlatCode::Ask(value))
         }
         _ => None,
     }
 }
 
 /// The code of a statement, if there is one.
-pub fn code_of(globals: &Owner<'_, '_>, locals: &Owner<'_, '_>, basic: Option<&Basic<'_>>) -> Code
+pub fn code_of(
+    globals: &FlatOwner<'_, '_>,
+    locals: &FlatOwner<'_, '_>,
+    basic: Option<&Basic<'_>>,
+) -> FlatCode
     ensures { IsCodeOf globals.now locals.now (option_copied basic.entry) result }
 {
     match basic {
         Some(Basic::Plain(action)) => match code_in(globals, locals, action) {
             Some(code) => code,
-            None => Code::No,
+            None => FlatCode::No,
         },
-        _ => Code::No,
+        _ => FlatCode::No,
     }
 }

@@ -12,12 +12,12 @@ use std::marker::Model;
 
 /// The variables of an owner, and where each begins among its cells. Contracts see the variables.
 #[derive(Drop)]
-pub struct Owner<'p, 'a> {
+pub struct FlatOwner<'p, 'a> {
     slots: &'p [Slot<'a>],
     starts: Vec<usize>,
 }
 
-impl<'p, 'a> Model for Owner<'p, 'a> {
+impl<'p, 'a> Model for FlatOwner<'p, 'a> {
     ghost use Rattle.std.specs.Prelude.{List};
     ghost use Rattle.pml_program.specs.declared.program.Slot.{Slot};
     ghost use Rattle.pml_program.specs.contracts.expr.Expr as worth;
@@ -66,13 +66,13 @@ fn size_at(slots: &[Slot<'_>], variable: usize) -> usize
     }
 }
 
-impl<'p, 'a> Owner<'p, 'a> {
+impl<'p, 'a> FlatOwner<'p, 'a> {
     /// The table of these variables.
-    pub fn new(alloc: Global, slots: &'p [Slot<'a>]) -> Result<Owner<'p, 'a>, AllocError>
+    pub fn new(alloc: Global, slots: &'p [Slot<'a>]) -> Result<FlatOwner<'p, 'a>, AllocError>
         ensures { IfOk result (λ owner. owner ≡ slots.now) }
     {
         let starts = starts_of(alloc, slots)?;
-        Ok(Owner { slots, starts })
+        Ok(FlatOwner { slots, starts })
     }
 
     /// Where a cell of a variable is among the cells of all, if the variable has it.

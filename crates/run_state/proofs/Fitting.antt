@@ -26,10 +26,10 @@ use Rattle.run_start.specs.Shown.{shape}
 use Rattle.run_start.proofs.Shapes.{shape-with_number}
 use Rattle.run_start.specs.Starting.{IsDeclared}
 use Rattle.run_start.proofs.Declaring.{frames_of_sorts}
-use Rattle.flat_code.specs.declared.code.Cell.{Cell}
-use Rattle.flat_code.specs.declared.code.Code.{Code}
-use Rattle.flat_code.specs.declared.code.Code.TheVariants.{No, Set, Ask}
-use Rattle.flat_code.specs.declared.code.Worth.{Worth}
+use Rattle.flat_code.specs.declared.code.FlatCell.{FlatCell}
+use Rattle.flat_code.specs.declared.code.FlatCode.{FlatCode}
+use Rattle.flat_code.specs.declared.code.FlatCode.TheVariants.{No, Set, Ask}
+use Rattle.flat_code.specs.declared.code.FlatWorth.{FlatWorth}
 use Rattle.flat_code.specs.Flat.{Always, AreIn, Asks, Fits, IsCodeOf, Stores, base_of, index, worth}
 use Rattle.run_state.specs.declared.seat.Seat.{Seat}
 use Rattle.run_state.specs.Standing.{stand_of}
@@ -94,39 +94,39 @@ seat_sort p [] n x y h k = cc
 seat_sort p (z ∷ xs) zero x y h k = let e : z ≡ x = cc in let f : stand_of p z ≡ y = cc in ap (λ (s : Seat). s.sort) (sym e) ∙ ap (λ (s : Stand). s.sort) f
 seat_sort p (z ∷ xs) (suc n) x y h k = seat_sort p xs n x y h k
 
-code_there : (p : Program) (xs : List Seat) (process n : ℕ) (x : Seat) (code : Code) → slice_get xs process ≡ Some x → IsCodeOf p.globals (variables_at p x.sort) (basic_in (statements_at p x.sort) n) code
+code_there : (p : Program) (xs : List Seat) (process n : ℕ) (x : Seat) (code : FlatCode) → slice_get xs process ≡ Some x → IsCodeOf p.globals (variables_at p x.sort) (basic_in (statements_at p x.sort) n) code
     → (y : Stand) → slice_get (map (stand_of p) xs) process ≡ Some y → IsCodeOf p.globals (variables_at p y.sort) (basic_in (statements_at p y.sort) n) code
 code_there p xs process n x code h c y k = subst (λ (s : ℕ). IsCodeOf p.globals (variables_at p s) (basic_in (statements_at p s) n) code) (seat_sort p xs process x y h k) c
 
-pub codes_there : (p : Program) (xs : List Seat) (process n : ℕ) (x : Seat) (o : Option (Bor Code)) → slice_get xs process ≡ Some x
-    → IfSome o (λ (code : Bor Code). IsCodeOf p.globals (variables_at p x.sort) (basic_in (statements_at p x.sort) n) code.now)
-    → IfSome o (λ (code : Bor Code). (y : Stand) → slice_get (map (stand_of p) xs) process ≡ Some y → IsCodeOf p.globals (variables_at p y.sort) (basic_in (statements_at p y.sort) n) code.now)
+pub codes_there : (p : Program) (xs : List Seat) (process n : ℕ) (x : Seat) (o : Option (Bor FlatCode)) → slice_get xs process ≡ Some x
+    → IfSome o (λ (code : Bor FlatCode). IsCodeOf p.globals (variables_at p x.sort) (basic_in (statements_at p x.sort) n) code.now)
+    → IfSome o (λ (code : Bor FlatCode). (y : Stand) → slice_get (map (stand_of p) xs) process ≡ Some y → IsCodeOf p.globals (variables_at p y.sort) (basic_in (statements_at p y.sort) n) code.now)
 codes_there p xs process n x None h c = tt
 codes_there p xs process n x (Some code) h c = code_there p xs process n x code.now h c
 
 -- ---- what a code needs
 
-no_set : (word : Scalar) (c : Cell) (v : Worth) → Set word c v ≡ No → ⊥
+no_set : (word : Scalar) (c : FlatCell) (v : FlatWorth) → Set word c v ≡ No → ⊥
 no_set word c v h = cc
 
-no_ask : (v : Worth) → Ask v ≡ No → ⊥
+no_ask : (v : FlatWorth) → Ask v ≡ No → ⊥
 no_ask v h = cc
 
-set_needs : (gs ls : List Slot) (o : Option Basic) (word : Scalar) (c : Cell) (v : Worth) → IsCodeOf gs ls o (Set word c v)
+set_needs : (gs ls : List Slot) (o : Option Basic) (word : Scalar) (c : FlatCell) (v : FlatWorth) → IsCodeOf gs ls o (Set word c v)
     → Always gs ls (λ frames base r. HasIndex frames (index base c) × AreIn (joined frames) base v)
 set_needs gs ls None word c v h = absurd (no_set word c v h)
 set_needs gs ls (Some (Plain x)) word c v h = λ frames cs process count timeout fits.
     let d = h frames cs process count timeout fits in (record { place = d.at; there = d.there; stands = d.stands }, d.within)
 set_needs gs ls (Some b) word c v h = absurd (no_set word c v h)
 
-ask_needs : (gs ls : List Slot) (o : Option Basic) (v : Worth) → IsCodeOf gs ls o (Ask v) → Always gs ls (λ frames base r. AreIn (joined frames) base v)
+ask_needs : (gs ls : List Slot) (o : Option Basic) (v : FlatWorth) → IsCodeOf gs ls o (Ask v) → Always gs ls (λ frames base r. AreIn (joined frames) base v)
 ask_needs gs ls None v h = absurd (no_ask v h)
 ask_needs gs ls (Some (Plain x)) v h = λ frames cs process count timeout fits. (h frames cs process count timeout fits).within
 ask_needs gs ls (Some b) v h = absurd (no_ask v h)
 
 -- ---- what a code says of a state
 
-module _ (s : State) (process n : ℕ) (code : Code) (f : FitsIn s process) (is : IsCodeIn s process n code) where
+module _ (s : State) (process n : ℕ) (code : FlatCode) (f : FitsIn s process) (is : IsCodeIn s process n code) where
   abbrev gs : List Slot
   gs = s.program.globals
 
@@ -139,59 +139,59 @@ module _ (s : State) (process n : ℕ) (code : Code) (f : FitsIn s process) (is 
   abbrev base : ℕ
   base = base_of s.frames process
 
-  has : (k : Code) → code ≡ k → IsCodeOf gs ls basic k
+  has : (k : FlatCode) → code ≡ k → IsCodeOf gs ls basic k
   has k e = subst (IsCodeOf gs ls basic) e (is f.stand f.at)
 
-  pub set_there : (word : Scalar) (c : Cell) (v : Worth) → code ≡ Set word c v → HasIndex s.frames (index base c)
+  pub set_there : (word : Scalar) (c : FlatCell) (v : FlatWorth) → code ≡ Set word c v → HasIndex s.frames (index base c)
   set_there word c v e = (set_needs gs ls basic word c v (has (Set word c v) e) s.frames s.channels process (length s.stands) true f.fits).0
 
-  pub set_in : (word : Scalar) (c : Cell) (v : Worth) → code ≡ Set word c v → AreIn (joined s.frames) base v
+  pub set_in : (word : Scalar) (c : FlatCell) (v : FlatWorth) → code ≡ Set word c v → AreIn (joined s.frames) base v
   set_in word c v e = (set_needs gs ls basic word c v (has (Set word c v) e) s.frames s.channels process (length s.stands) true f.fits).1
 
-  pub ask_in : (v : Worth) → code ≡ Ask v → AreIn (joined s.frames) base v
+  pub ask_in : (v : FlatWorth) → code ≡ Ask v → AreIn (joined s.frames) base v
   ask_in v e = ask_needs gs ls basic v (has (Ask v) e) s.frames s.channels process (length s.stands) true f.fits
 
   -- of the statement with its number
   module _ (x : Action) (timeout : Bool) (numbered : IsNumbered s process n (Some (Plain x))) where
-    of : (k : Code) → code ≡ k → IsCodeOf gs ls (Some (Plain x)) k
+    of : (k : FlatCode) → code ≡ k → IsCodeOf gs ls (Some (Plain x)) k
     of k e = subst (λ (o : Option Basic). IsCodeOf gs ls o k) (numbered f.stand f.at) (has k e)
 
-    stores : (word : Scalar) (c : Cell) (v : Worth) → code ≡ Set word c v → Stores s.frames base (reads s process timeout) x word c v
+    stores : (word : Scalar) (c : FlatCell) (v : FlatWorth) → code ≡ Set word c v → Stores s.frames base (reads s process timeout) x word c v
     stores word c v e = of (Set word c v) e s.frames s.channels process (length s.stands) timeout f.fits
 
-    asks : (v : Worth) → code ≡ Ask v → Asks s.frames base (reads s process timeout) x v
+    asks : (v : FlatWorth) → code ≡ Ask v → Asks s.frames base (reads s process timeout) x v
     asks v e = of (Ask v) e s.frames s.channels process (length s.stands) timeout f.fits
 
-    pub ask_fails : (v : Worth) (e : Fault) → code ≡ Ask v → worth (joined s.frames) base v ≡ Err e → put_by s (outcome x (reads s process timeout)) ≡ Err e
+    pub ask_fails : (v : FlatWorth) (e : Fault) → code ≡ Ask v → worth (joined s.frames) base v ≡ Err e → put_by s (outcome x (reads s process timeout)) ≡ Err e
     ask_fails v e i w = ap (put_by s) ((asks v i).does ∙ ap (λ (o : Result ℤ Fault). o >>= λ n. Ok None) w)
 
-    pub ask_goes : (v : Worth) (m : ℤ) → code ≡ Ask v → worth (joined s.frames) base v ≡ Ok m → put_by s (outcome x (reads s process timeout)) ≡ Ok s
+    pub ask_goes : (v : FlatWorth) (m : ℤ) → code ≡ Ask v → worth (joined s.frames) base v ≡ Ok m → put_by s (outcome x (reads s process timeout)) ≡ Ok s
     ask_goes v m i w = ap (put_by s) ((asks v i).does ∙ ap (λ (o : Result ℤ Fault). o >>= λ n. Ok None) w)
 
-    pub set_fails : (word : Scalar) (c : Cell) (v : Worth) (e : Fault) → code ≡ Set word c v → worth (joined s.frames) base v ≡ Err e
+    pub set_fails : (word : Scalar) (c : FlatCell) (v : FlatWorth) (e : Fault) → code ≡ Set word c v → worth (joined s.frames) base v ≡ Err e
         → put_by s (outcome x (reads s process timeout)) ≡ Err e
     set_fails word c v e i w =
         let d = stores word c v i in
         ap (put_by s) (d.does ∙ ap (λ (o : Result ℤ Fault). o >>= λ n. Ok (Some (record { place = d.at; number = clipped (Kept word) n }))) w)
 
-    set_goes : (word : Scalar) (c : Cell) (v : Worth) (m : ℤ) (i : code ≡ Set word c v) → worth (joined s.frames) base v ≡ Ok m
+    set_goes : (word : Scalar) (c : FlatCell) (v : FlatWorth) (m : ℤ) (i : code ≡ Set word c v) → worth (joined s.frames) base v ≡ Ok m
         → put_by s (outcome x (reads s process timeout)) ≡ Ok (put s (record { place = (stores word c v i).at; number = clipped (Kept word) m }))
     set_goes word c v m i w =
         let d = stores word c v i in
         ap (put_by s) (d.does ∙ ap (λ (o : Result ℤ Fault). o >>= λ n. Ok (Some (record { place = d.at; number = clipped (Kept word) n }))) w)
 
     -- what is put at its cell is what the statement stores
-    pub set_puts : (word : Scalar) (c : Cell) (v : Worth) (m : ℤ) (r : Result (Unit {0}) Stop) (new : State) → code ≡ Set word c v → worth (joined s.frames) base v ≡ Ok m
+    pub set_puts : (word : Scalar) (c : FlatCell) (v : FlatWorth) (m : ℤ) (r : Result (Unit {0}) Stop) (new : State) → code ≡ Set word c v → worth (joined s.frames) base v ≡ Ok m
         → PutsAt s (index base c) word m r new → Leads (put_by s (outcome x (reads s process timeout))) r new
     set_puts word c v m r new i w h =
         let d = stores word c v i in
         subst (λ (o : Result State Fault). Leads o r new) (sym (set_goes word c v m i w)) (h d.at d.there d.stands)
 
-    pub set_can : (word : Scalar) (c : Cell) (v : Worth) → code ≡ Set word c v → (d : Bool) → can s.lossy s.channels (reads s process timeout) d x ≡ true
+    pub set_can : (word : Scalar) (c : FlatCell) (v : FlatWorth) → code ≡ Set word c v → (d : Bool) → can s.lossy s.channels (reads s process timeout) d x ≡ true
     set_can word c v i d = ap or_fault ((stores word c v i).free s.lossy s.channels d)
 
-    pub ask_can : (v : Worth) (m : ℤ) → code ≡ Ask v → worth (joined s.frames) base v ≡ Ok m → (d : Bool) → can s.lossy s.channels (reads s process timeout) d x ≡ not (is_zero m)
+    pub ask_can : (v : FlatWorth) (m : ℤ) → code ≡ Ask v → worth (joined s.frames) base v ≡ Ok m → (d : Bool) → can s.lossy s.channels (reads s process timeout) d x ≡ not (is_zero m)
     ask_can v m i w d = ap or_fault ((asks v i).asks s.lossy s.channels d ∙ ap (λ (o : Result ℤ Fault). o >>= λ n. Ok (not (is_zero n))) w)
 
-    pub ask_can_fail : (v : Worth) (e : Fault) → code ≡ Ask v → worth (joined s.frames) base v ≡ Err e → (d : Bool) → can s.lossy s.channels (reads s process timeout) d x ≡ true
+    pub ask_can_fail : (v : FlatWorth) (e : Fault) → code ≡ Ask v → worth (joined s.frames) base v ≡ Err e → (d : Bool) → can s.lossy s.channels (reads s process timeout) d x ≡ true
     ask_can_fail v e i w d = ap or_fault ((asks v i).asks s.lossy s.channels d ∙ ap (λ (o : Result ℤ Fault). o >>= λ n. Ok (not (is_zero n))) w)

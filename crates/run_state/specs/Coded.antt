@@ -8,8 +8,8 @@ use Rattle.pml_program.specs.declared.program.Program.{Program}
 use Rattle.pml_flow.specs.Graph.{Graph}
 use Rattle.promela_run.specs.State.{Stand, State, variables_at}
 use Rattle.promela_run.specs.Steps.{body_by}
-use Rattle.flat_code.specs.declared.code.Code.{Code}
-use Rattle.flat_code.specs.declared.code.Code.TheVariants.{No}
+use Rattle.flat_code.specs.declared.code.FlatCode.{FlatCode}
+use Rattle.flat_code.specs.declared.code.FlatCode.TheVariants.{No}
 use Rattle.flat_code.specs.Flat.{IsCodeOf}
 use Rattle.run_state.specs.declared.body.Body.{Body}
 use Rattle.run_state.specs.Standing.{seq_of, statements_of, IsPlayed}
@@ -23,15 +23,15 @@ abbrev pub statements_at : Program → ℕ → List (Option Stmt)
 statements_at p k = option_map_or (λ q. statements_of q.body) (slice_get p.proctypes k) []
 
 -- codes are those of statements
-abbrev pub AreCodes : List Slot → List Slot → List (Option Stmt) → List Code → Type 0
+abbrev pub AreCodes : List Slot → List Slot → List (Option Stmt) → List FlatCode → Type 0
 AreCodes gs ls ss cs = (n : ℕ) → IsCodeOf gs ls (basic_in ss n) (slice_index_or cs n No)
 
 -- of each proctype
-abbrev pub AreAllCodes : Program → List (List Code) → Type 0
+abbrev pub AreAllCodes : Program → List (List FlatCode) → Type 0
 AreAllCodes p cs = (k : ℕ) → AreCodes p.globals (variables_at p k) (statements_at p k) (slice_index_or cs k [])
 
 -- graphs, statements and codes are those of the proctypes
-pub record IsPrepared (p : Program) (gs : List Graph) (ss : List (List (Option Stmt))) (cs : List (List Code)) : Type 0 where
+pub record IsPrepared (p : Program) (gs : List Graph) (ss : List (List (Option Stmt))) (cs : List (List FlatCode)) : Type 0 where
   pub played : IsPlayed p gs ss
   pub codes : AreAllCodes p cs
 
@@ -44,6 +44,6 @@ abbrev pub IsNumbered : State → ℕ → ℕ → Option Basic → Type 0
 IsNumbered s process n o = (y : Stand) → slice_get s.stands process ≡ Some y → basic_in (statements_at s.program y.sort) n ≡ o
 
 -- it is the code of the statement with this number of the proctype of a process
-abbrev pub IsCodeIn : State → ℕ → ℕ → Code → Type 0
+abbrev pub IsCodeIn : State → ℕ → ℕ → FlatCode → Type 0
 IsCodeIn s process n code = (y : Stand) → slice_get s.stands process ≡ Some y
     → IsCodeOf s.program.globals (variables_at s.program y.sort) (basic_in (statements_at s.program y.sort) n) code

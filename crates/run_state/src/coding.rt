@@ -8,10 +8,10 @@ ghost use Rattle.run_state.specs.Standing.{statements_of};
 
 use crate::body::Body;
 use crate::played::body_at;
-use flat_code::code::Code;
+use flat_code::code::FlatCode;
 use flat_code::codes::Codes;
 use flat_code::make::code_of;
-use flat_code::owner::Owner;
+use flat_code::owner::FlatOwner;
 use pml_flow::edge::Edge;
 use pml_flow::graph::Graph;
 use pml_flow::statements::Statements;
@@ -60,8 +60,8 @@ fn basic_at<'p, 'a>(statements: &Statements<'p, 'a>, number: usize) -> Option<&'
 /// The codes of so many statements.
 fn codes_of(
     alloc: Global,
-    globals: &Owner<'_, '_>,
-    locals: &Owner<'_, '_>,
+    globals: &FlatOwner<'_, '_>,
+    locals: &FlatOwner<'_, '_>,
     statements: &Statements<'_, '_>,
     count: usize,
 ) -> Result<Codes, AllocError>
@@ -77,12 +77,12 @@ fn codes_of(
 /// The codes of a body.
 fn codes_in(
     alloc: Global,
-    globals: &Owner<'_, '_>,
+    globals: &FlatOwner<'_, '_>,
     body: &Body<'_, '_, '_>,
 ) -> Result<Codes, AllocError>
     ensures { IfOk result (AreCodes globals.now body.now.proctype.now.variables body.now.statements.now) }
 {
-    let locals = Owner::new(alloc, body.proctype.variables.as_slice())?;
+    let locals = FlatOwner::new(alloc, body.proctype.variables.as_slice())?;
     let count = statement_count(body.graph);
     codes_of(alloc, globals, &locals, body.statements, count)
 }
@@ -98,7 +98,7 @@ pub(crate) fn codes_of_all<'p, 'a>(
     requires statements { statements.now ≡ map (λ q. statements_of q.body) program.now.proctypes }
     ensures { IfOk result (λ v. AreAllCodes program.now v.items) }
 {
-    let globals = Owner::new(alloc, program.globals.as_slice())?;
+    let globals = FlatOwner::new(alloc, program.globals.as_slice())?;
     let mut all = Vec::with_capacity(alloc, statements.len())?;
     for sort in 0..statements.len() {
         match body_at(program, graphs, statements, sort) {
@@ -111,7 +111,7 @@ pub(crate) fn codes_of_all<'p, 'a>(
 
 /// The code of a statement of a proctype, by their numbers.
 #[inline(always)]
-pub(crate) fn code_at(codes: &[Codes], sort: usize, statement: usize) -> Option<&Code>
+pub(crate) fn code_at(codes: &[Codes], sort: usize, statement: usize) -> Option<&FlatCode>
     ensures { option_copied result ≡ slice_get (slice_index_or codes.now sort []) statement }
 {
     match codes.get(sort) {

@@ -10,7 +10,7 @@ ghost use Rattle.run_state.specs.Live.{Keeps};
 use crate::live::Live;
 use crate::seat::seat_at;
 use diagnostics::{Fault, Stop};
-use flat_code::code::{Cell, Code, Worth};
+use flat_code::code::{FlatCell, FlatCode, FlatWorth};
 use flat_code::run::{index, worth};
 use pml_eval::clip::clip;
 use pml_program::form::Form;
@@ -19,7 +19,7 @@ use pml_tree::tree::Scalar;
 impl Live<'_, '_> {
     /// The flat code of a statement of a process, by their numbers.
     #[inline(always)]
-    fn code(&self, process: usize, statement: usize) -> Option<&Code>
+    fn code(&self, process: usize, statement: usize) -> Option<&FlatCode>
         ensures { IfSome result (λ code. IsCodeIn self.now.state process statement code.now) }
     {
         match seat_at(self.seats.as_slice(), process) {
@@ -39,7 +39,7 @@ impl Live<'_, '_> {
 
     /// What flat code is worth to a process.
     #[inline(always)]
-    fn flat_worth(&self, process: usize, value: &Worth) -> Result<i32, Fault>
+    fn flat_worth(&self, process: usize, value: &FlatWorth) -> Result<i32, Fault>
         requires process { process < length self.now.state.stands }
         requires there { AreIn (joined self.now.state.frames) (base_of self.now.state.frames process) value.now }
         ensures { result ≡ worth (joined self.now.state.frames) (base_of self.now.state.frames process) value.now }
@@ -54,7 +54,7 @@ impl Live<'_, '_> {
         &mut self,
         process: usize,
         word: Scalar,
-        cell: Cell,
+        cell: FlatCell,
         number: i32,
     ) -> Result<(), Stop>
         requires process { process < length self.old.state.stands }
@@ -82,8 +82,8 @@ impl Live<'_, '_> {
     {
         self.fits(process);
         match self.code(process, statement) {
-            Some(Code::Set(_, _, _)) => Some(true),
-            Some(Code::Ask(value)) => match self.flat_worth(process, value) {
+            Some(FlatCode::Set(_, _, _)) => Some(true),
+            Some(FlatCode::Ask(value)) => match self.flat_worth(process, value) {
                 Err(_) => Some(true),
                 Ok(number) => Some(number != 0),
             },
@@ -101,14 +101,14 @@ impl Live<'_, '_> {
     {
         self.fits(process);
         match self.code(process, statement) {
-            Some(Code::Set(word, cell, value)) => match self.flat_worth(process, value) {
+            Some(FlatCode::Set(word, cell, value)) => match self.flat_worth(process, value) {
                 Err(fault) => Some(Err(Stop::Fault(fault))),
                 Ok(number) => {
                     let (word, cell) = (*word, *cell);
                     Some(self.put_flat(process, word, cell, number))
                 }
             },
-            Some(Code::Ask(value)) => match self.flat_worth(process, value) {
+            Some(FlatCode::Ask(value)) => match self.flat_worth(process, value) {
                 Err(fault) => Some(Err(Stop::Fault(fault))),
                 Ok(_) => Some(Ok(())),
             },

@@ -12,7 +12,7 @@ ghost use Rattle.run_state.specs.Standing.{stand_of, statements_of, IsBody};
 use crate::body::Body;
 use crate::coding::{code_at, codes_of_all};
 use crate::seat::Seat;
-use flat_code::code::Code;
+use flat_code::code::FlatCode;
 use flat_code::codes::Codes;
 use pml_flow::graph::Graph;
 use pml_flow::statements::{Statements, all_statements};
@@ -174,7 +174,7 @@ impl<'p, 'a> Played<'p, 'a> {
 
     /// The flat code of a statement of a proctype, by their numbers.
     #[inline(always)]
-    pub fn code(&self, sort: usize, statement: usize) -> Option<&Code>
+    pub fn code(&self, sort: usize, statement: usize) -> Option<&FlatCode>
         ensures { IfSome result (λ code. IsCodeOf self.now.globals (variables_at self.now sort)
             (basic_in (statements_at self.now sort) statement) code.now) }
     {

@@ -1,6 +1,6 @@
 use Rattle.std.proofs.Common.{rules, arith, ◌<◌, length}
 use Rattle.flat_code.proofs.Starting.{starts_at}
-use Rattle.flat_code.proofs.owner.Owner.cell.Goals as goal
+use Rattle.flat_code.proofs.owner.FlatOwner.cell.Goals as goal
 
 pub returns-in-Some : goal.returns-in-Some
 returns-in-Some c =
