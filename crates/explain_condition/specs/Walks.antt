@@ -1,5 +1,5 @@
 -- Where a reference leads, and which of its names that is told of.
-use Rattle.std.specs.Prelude.{ℕ, ◌-◌, Bool, true, false, if◌then◌else◌, List, slice_get, Option, Some, None}
+use Rattle.std.specs.Prelude.{ℕ, ◌-◌, Bool, true, false, List, slice_get, Option, Some, None}
 use Rattle.pml_program.specs.declared.form.Form.{Form}
 use Rattle.pml_program.specs.declared.form.Form.TheVariants as form
 use Rattle.promela_model.specs.declared.mark.Shape.{Shape}

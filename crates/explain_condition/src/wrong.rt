@@ -90,10 +90,8 @@ fn of_end<'t>(text: &'t [u8], how: Use, steps: &[Shape<'_>], end: ReferenceEnd) 
 fn asks_length(text: &[u8], steps: &[Shape<'_>], end: ReferenceEnd) -> bool {
     match end {
         ReferenceEnd::NoFields(number) => {
-            matches!(
-                foreign_word(name_at(text, steps, number).name),
-                Some(Foreign::Length)
-            )
+            let word = foreign_word(name_at(text, steps, number).name);
+            matches!(word, Some(Foreign::Length))
         }
         _ => false,
     }
@@ -366,16 +364,11 @@ fn declared_before<'t>(
 /// The same of the name that the mark at `at` uses by itself.
 fn declared_at(text: &[u8], marks: &[Mark<'_>], at: usize) -> Option<usize> {
     let sign = sign_at(text, marks, at);
-    match sign.matter {
-        Saying::Reference(_) => {
-            let steps = steps_at(marks, at);
-            if steps.len() == 1 {
-                declared_before(text, marks, at, sign.owner, name_at(text, steps, 0))
-            } else {
-                None
-            }
-        }
-        _ => None,
+    let steps = steps_at(marks, at);
+    if matches!(sign.matter, Saying::Reference(_)) && steps.len() == 1 {
+        declared_before(text, marks, at, sign.owner, name_at(text, steps, 0))
+    } else {
+        None
     }
 }
 

@@ -34,14 +34,12 @@ use std::alloc::{AllocError, Global};
 fn list_at<'t>(tokens: &[Token<'_>], at: usize) -> Expected<'t>
     ensures { sorts.is_list result ≡ true }
 {
-    if is_at(tokens, at.saturating_add(3), Kind::Of) {
-        return Expected::Form(if is_at(tokens, at, Kind::OpenBracket) {
-            Foreign::ChannelAssignment
-        } else {
-            Foreign::Channel
-        });
-    }
-    if is_before(tokens, at, 2, Kind::Mtype) {
+    let is_channel = is_at(tokens, at.saturating_add(3), Kind::Of);
+    if is_channel && is_at(tokens, at, Kind::OpenBracket) {
+        Expected::Form(Foreign::ChannelAssignment)
+    } else if is_channel {
+        Expected::Form(Foreign::Channel)
+    } else if is_before(tokens, at, 2, Kind::Mtype) {
         Expected::Form(Foreign::Enumeration)
     } else if is_before(tokens, at, 3, Kind::Mtype) {
         Expected::Form(Foreign::NamedMtype)
@@ -155,12 +153,10 @@ fn unfit_within<'t>(
     ensures { IfSome result (λ wish. sorts.is_unfit wish ≡ true) }
 {
     let kind = kind_at(tokens, at);
-    let is_bracket = is_at(tokens, opener, Kind::OpenBracket);
-    let is_paren = is_at(tokens, opener, Kind::OpenParen);
-    if is_bracket && same_kind(kind, Kind::Comma) {
+    if is_at(tokens, opener, Kind::OpenBracket) && same_kind(kind, Kind::Comma) {
         return Some(in_brackets(tokens, opener));
     }
-    if is_paren && same_kind(kind, Kind::Assign) {
+    if is_at(tokens, opener, Kind::OpenParen) && same_kind(kind, Kind::Assign) {
         let arrow = name_at(text, tokens, arrow_between(tokens, opener, at)?);
         return Some(Expected::CloserBeforeArrow(name_at(text, tokens, opener), arrow));
     }
