@@ -34,6 +34,7 @@ use run_state::live::Live;
 use run_state::played::Played;
 use run_step::take::take;
 use run_texts::ends::{add_stuck, is_valid, stuck};
+use run_texts::kept::KeptTexts;
 use run_texts::texts::{add_move, origin};
 use run_values::change::{Wanted, logged_lines};
 use run_values::changed::{Change, logged_changes, value_line};
@@ -48,6 +49,7 @@ pub struct World<'p, 'a> {
     /// How many processes lived before the last step and still do.
     older: usize,
     halt: Option<Halt>,
+    kept: KeptTexts<'p, 'a>,
 }
 
 impl<'p, 'a> Model for World<'p, 'a> {
@@ -64,6 +66,8 @@ impl<'p, 'a> Model for World<'p, 'a> {
     ghost coded = { Prim.hlevel (codes, worth.the_row.coded, (seq.the_row (record { mir = named 0; lft = [] })).coded, (basic.the_row (record { mir = named 0; lft = [] })).coded) };
 
     ghost view = { λ w. record { state = w.live.state; past = take (w.older + 1) w.live.past; halt = w.halt } };
+
+    ghost invariant = { λ w. w.kept ≡ w.live.state.program };
 }
 
 impl<'p, 'a> World<'p, 'a> {
@@ -81,10 +85,12 @@ impl<'p, 'a> World<'p, 'a> {
     {
         let live = Live::first(alloc, played, started, lossy)?;
         let older = live.process_count();
+        let kept = KeptTexts::new(alloc, live.program());
         Ok(World {
             live,
             older,
             halt: None,
+            kept,
         })
     }
 
@@ -133,6 +139,7 @@ impl<'p, 'a> World<'p, 'a> {
             return Err(halt.why);
         }
         let before = self.live.process_count();
+        self.kept.keep_missed(&self.live);
         self.live.forget();
         match take(&mut self.live, m, text) {
             Ok(()) => {
@@ -302,8 +309,9 @@ impl Machine for World<'_, '_> {
         add_moves(&self.live, moves)
     }
 
+    #[inline(always)]
     fn show(&self, m: &Move, text: &mut Vec<u8>) -> Result<(), AllocError> {
-        add_move(&self.live, *m, text)
+        self.kept.add_move(&self.live, *m, text)
     }
 
     fn origin(&self, m: &Move) -> (u32, u32) {

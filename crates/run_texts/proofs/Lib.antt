@@ -2,6 +2,7 @@ pub mod Settled
 pub mod Stated
 pub mod Ending
 pub mod Staying
+pub mod Standing
 pub mod Keeping
 pub mod Samples
 pub mod Rows

@@ -36,14 +36,18 @@ pick_is s k =
     let o : Option Stand = slice_get s.stands k.process in
     ap (offer_with_heading k.process (sort_of s.program o)) (offer_is s k o)
 
+-- an offer has its text wherever its process stands as it does
+pub same_text : (s t : State) (k : Pick) → t.program ≡ s.program → slice_get t.stands k.process ≡ slice_get s.stands k.process → pick_text t k ≡ pick_text s k
+same_text s t k same stand =
+    pick_is t k ∙ ap (λ (pr : Program). pick_by pr k (slice_get t.stands k.process)) same
+    ∙ ap (pick_by s.program k) stand ∙ sym (pick_is s k)
+
 module _ (s t : State) (more : List Stand) (same : t.program ≡ s.program) (more_is : t.stands ≡ s.stands ++ more) where
   stand_stays : (p : ℕ) → p < length s.stands → slice_get t.stands p ≡ slice_get s.stands p
   stand_stays p h = ap (λ (ys : List Stand). slice_get ys p) more_is ∙ get_left s.stands more p h
 
   pick_stays : (k : Pick) → k.process < length s.stands → pick_text t k ≡ pick_text s k
-  pick_stays k h =
-      pick_is t k ∙ ap (λ (pr : Program). pick_by pr k (slice_get t.stands k.process)) same
-      ∙ ap (pick_by s.program k) (stand_stays k.process h) ∙ sym (pick_is s k)
+  pick_stays k h = same_text s t k same (stand_stays k.process h)
 
   pub text_stays : (m : Move) → IsWithin (length s.stands) m → move_text t m ≡ move_text s m
   text_stays (Death p) h =

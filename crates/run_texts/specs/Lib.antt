@@ -1,3 +1,4 @@
 pub mod Staying
 pub mod Charts
 pub mod Opening
+pub mod Kept

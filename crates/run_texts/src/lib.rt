@@ -2,6 +2,7 @@
 #![tactic(auto)]
 
 pub mod ends;
+pub mod kept;
 pub mod laws;
 mod place;
 pub mod texts;

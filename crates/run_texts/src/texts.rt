@@ -18,7 +18,7 @@ use run_state::seat::seat_at;
 use std::alloc::AllocError;
 
 /// The proctype of a process.
-fn proctype_of<'p, 'a>(live: &Live<'p, 'a>, process: usize) -> Option<&'p Proctype<'a>>
+pub(crate) fn proctype_of<'p, 'a>(live: &Live<'p, 'a>, process: usize) -> Option<&'p Proctype<'a>>
     ensures { option_copied result ≡ proctype_in live.now.state process }
 {
     proctype_at(live.program(), seat_at(live.seats(), process)?.sort)
@@ -26,7 +26,7 @@ fn proctype_of<'p, 'a>(live: &Live<'p, 'a>, process: usize) -> Option<&'p Procty
 
 /// Appends `proc P (NAME) line L [-end-]`, where L is the line of the closing brace.
 #[inline(never)]
-fn add_death(
+pub(crate) fn add_death(
     process: usize,
     proctype: Option<&Proctype<'_>>,
     text: &mut Vec<u8>,
@@ -44,7 +44,11 @@ fn add_death(
 
 /// Appends the text of the offer that a pick names.
 #[inline(always)]
-fn add_pick(live: &Live<'_, '_>, pick: Pick, text: &mut Vec<u8>) -> Result<(), AllocError>
+pub(crate) fn add_pick(
+    live: &Live<'_, '_>,
+    pick: Pick,
+    text: &mut Vec<u8>,
+) -> Result<(), AllocError>
     ensures added { OnOk result (text.new.items ≡ text.old.items ++ pick_text live.now.state pick) }
     ensures kept { OnErr result (StartsWith text.new.items text.old.items) }
 {
