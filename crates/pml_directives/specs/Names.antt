@@ -1,11 +1,12 @@
 -- Names that are known, and files by their names.
-use Rattle.std.specs.Prelude.{◌≡◌, false, ℕ, ◌+◌, ◌*◌, ◌-◌, ◌==◌, Bool, ◌&&◌, ◌||◌, nat_le, if◌then◌else◌, List, [], ◌∷◌, ◌++◌, Option, None, Some, option_map, min, ◌^◌, codes}
-use Rattle.std.specs.List.{flat_map}
+use Rattle.std.specs.Prelude.{◌≡◌, false, ℕ, ◌+◌, ◌*◌, ◌-◌, ◌==◌, Bool, ◌&&◌, ◌||◌, nat_le, if◌then◌else◌, List, [], ◌∷◌, ◌++◌, Option, None, Some, is_some, option_map, min, ◌^◌, codes}
+use Rattle.std.specs.List.{flat_map, list_any}
 use Rattle.std.specs.Str.{bytes_eq}
 use Rattle.pml_macros.specs.declared.atom.Atom.{Atom}
 use Rattle.pml_macros.specs.declared.atom.FilePlace.{FilePlace}
 use Rattle.pml_directives.specs.declared.whole.TheConstants.{MOST_LINE}
-use Rattle.pml_macros.specs.Calls.{same_sort}
+use Rattle.pml_macros.specs.Calls.{same_sort, known}
+use Rattle.pml_macros.specs.declared.table.MacroTable.{MacroTable}
 use Rattle.pml_macros.specs.declared.atom.AtomSort.TheVariants as sort
 use Rattle.pml_macros.specs.declared.table.BodyToken.{BodyToken}
 use Rattle.pml_macros.specs.declared.book.Book.{Book}
@@ -15,6 +16,18 @@ use Rattle.pml_directives.specs.declared.state.Shift.{Shift}
 -- the macros that no text defines
 abbrev pub is_built_in : List ℕ → Bool
 is_built_in t = bytes_eq t (codes "__LINE__") || bytes_eq t (codes "__FILE__")
+
+-- a token is the name of a macro
+unfoldable pub is_macro : MacroTable → Atom → Bool
+is_macro t a = same_sort a.sort sort.Name && is_some (known t a.text)
+
+-- some token is
+abbrev pub names_macro : MacroTable → List Atom → Bool
+names_macro t as' = list_any (is_macro t) as'
+
+-- one of these tokens is a `>`
+abbrev pub is_closed : Book → List Atom → Bool
+is_closed b as' = list_any (λ a. bytes_eq (text_in b a.text) (codes ">")) as'
 
 -- a byte within quotes
 abbrev pub escaped : ℕ → List ℕ

@@ -5,7 +5,6 @@ use Rattle.std.specs.Global.{Vec}
 use Rattle.std.specs.Str.{bytes_eq}
 use Rattle.pml_macros.specs.declared.atom.Atom.{Atom}
 use Rattle.pml_macros.specs.declared.atom.FilePlace.{FilePlace}
-use Rattle.pml_macros.specs.Texts.{text_in}
 use Rattle.pml_directives.specs.declared.state.TheConstants.{MOST_BYTES}
 use Rattle.pml_directives.specs.declared.state.Open.{Open}
 use Rattle.pml_directives.specs.declared.state.Shift.{Shift}

@@ -79,7 +79,9 @@ fn without_defined(
     state: &mut State,
     atoms: &[Atom],
     place: FilePlace,
-) -> Result<Vec<Atom>, DirectiveRefusal> {
+) -> Result<Vec<Atom>, DirectiveRefusal>
+    ensures { IfOk result (λ out. length out.items ≤ length atoms.now) }
+{
     let mut out = Vec::with_capacity(alloc, atoms.len())?;
     let mut rest = atoms;
     while let [atom, others @ ..] = rest {

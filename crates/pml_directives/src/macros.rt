@@ -103,10 +103,20 @@ fn tell_places(alloc: Global, state: &mut State, atoms: &mut [Atom]) -> Result<(
     Ok(())
 }
 
+/// Whether a token is the name of a macro.
+#[tactic(auto, unfolding(crate::specs::Names::is_macro))]
+fn is_macro(state: &State, atom: Atom) -> bool
+    ensures { result ≡ rules.is_macro state.now.table atom }
+{
+    same_sort(atom.sort, AtomSort::Name) && state.table.knows(atom.text)
+}
+
 /// Whether some token is the name of a macro.
-fn names_macro(state: &State, atoms: &[Atom]) -> bool {
+fn names_macro(state: &State, atoms: &[Atom]) -> bool
+    ensures { result ≡ rules.names_macro state.now.table atoms.now }
+{
     for atom in atoms {
-        if same_sort(atom.sort, AtomSort::Name) && state.table.knows(atom.text) {
+        if is_macro(state, *atom) {
             return true;
         }
     }

@@ -71,13 +71,17 @@ const NOWHERE: FilePlace = FilePlace {
 };
 
 impl From<AllocError> for DirectiveRefusal {
-    fn from(_: AllocError) -> DirectiveRefusal {
+    fn from(_: AllocError) -> DirectiveRefusal
+        ensures { result ≡ refusal Why.Memory NOWHERE }
+    {
         refused(Why::Memory, NOWHERE)
     }
 }
 
 impl<T: Drop> From<AllocFailed<T>> for DirectiveRefusal {
-    fn from(_: AllocFailed<T>) -> DirectiveRefusal {
+    fn from(_: AllocFailed<T>) -> DirectiveRefusal
+        ensures { result ≡ refusal Why.Memory NOWHERE }
+    {
         refused(Why::Memory, NOWHERE)
     }
 }

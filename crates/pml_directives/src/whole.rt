@@ -1,6 +1,6 @@
 //! What comes of a text with its `#` lines.
 
-ghost use Rattle.std.specs.Prelude.{false, ◌≡◌, ◌≤◌, ◌<◌, ◌+◌, ◌++◌, Some, length, IfOk, OnOk, IfErr, OnErr};
+ghost use Rattle.std.specs.Prelude.{is_some, None, false, ◌≡◌, ◌≤◌, ◌<◌, ◌+◌, ◌++◌, Some, length, IfOk, OnOk, IfErr, OnErr};
 ghost use Rattle.std.specs.List.{list_any};
 ghost use Rattle.pml_directives.specs.Names as rules;
 ghost use Rattle.pml_directives.specs.Places.{StandIn};
@@ -32,7 +32,9 @@ const MOST_LINE: u32 = 1_048_576;
 pub const MOST_FILE_BYTES: usize = 1_048_576;
 
 /// The bytes up to a `>`.
-fn bracketed(alloc: Global, state: &State, atoms: &[Atom]) -> Result<Option<Vec<u8>>, AllocError> {
+fn bracketed(alloc: Global, state: &State, atoms: &[Atom]) -> Result<Option<Vec<u8>>, AllocError>
+    ensures { IfOk result (λ name. is_some name ≡ rules.is_closed state.now.work.book atoms.now) }
+{
     let mut name = Vec::new(alloc);
     for atom in atoms {
         match state.text(atom) {
@@ -51,7 +53,9 @@ struct Target {
 }
 
 /// The name of a file in quotes or brackets.
-fn wanted(alloc: Global, state: &State, atoms: &[Atom]) -> Result<Option<Target>, AllocError> {
+fn wanted(alloc: Global, state: &State, atoms: &[Atom]) -> Result<Option<Target>, AllocError>
+    ensures { length atoms.now ≡ 0 → IfOk result (λ target. target ≡ None) }
+{
     let [first, others @ ..] = atoms else {
         return Ok(None);
     };
