@@ -172,13 +172,7 @@ fn holds_slowly(live: &Live<'_, '_>, timeout: bool, process: usize, value: &Expr
 
 /// Whether a condition of a process holds, or comes to a fault, by its number: at once, where it has a flat code.
 #[inline(always)]
-fn holds(
-    live: &Live<'_, '_>,
-    timeout: bool,
-    process: usize,
-    value: &Expr,
-    statement: usize,
-) -> bool
+fn holds(live: &Live<'_, '_>, timeout: bool, process: usize, value: &Expr, statement: usize) -> bool
     requires there { process < length live.now.state.stands }
     requires numbered { IsNumbered live.now.state process statement (Some (Plain (Holds value.now))) }
     ensures { result ≡ can live.now.state.lossy live.now.state.channels (reads live.now.state process timeout) false (Holds value.now) }

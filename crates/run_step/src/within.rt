@@ -86,14 +86,7 @@ fn advance(
     let Some(choice) = chosen(live, process, timeout, node) else {
         return Err(Stop::Fault(Fault::DStepBlocks));
     };
-    effect(
-        live,
-        process,
-        timeout,
-        choice.basic,
-        choice.statement,
-        text,
-    )?;
+    effect(live, process, timeout, choice.basic, choice.statement, text)?;
     if choice.stays {
         return Ok(Inner::At(choice.next));
     }
