@@ -13,7 +13,7 @@ ghost use Rattle.run_state.specs.Live.{Leads, Joins, PastGrows};
 ghost use Rattle.run_step.specs.Done.{Does, Grows};
 
 use crate::arguments::{goes_to, values_of};
-use crate::storing::{ask, assign, count};
+use crate::storing::{assign_element, has_index, store};
 use diagnostics::{Fault, Stop};
 use pml_eval::eval::eval;
 use pml_program::expr::{Expr, Target};
@@ -204,13 +204,13 @@ fn does_at_once(
     ensures grows { Grows result live.old live.new text.old.items text.new.items }
 {
     match action {
-        Action::Assign(Some(target), value) => {
-            assign(live, process, timeout, target, value, statement)
-        }
         Action::Else | Action::Holds(Expr::Number(_)) => Ok(()),
-        Action::Holds(value) => ask(live, process, timeout, value, statement),
-        Action::Increment(_) => count(live, process, timeout, action, statement),
-        Action::Decrement(_) => count(live, process, timeout, action, statement),
+        Action::Assign(Some(target), value) if has_index(target) => {
+            assign_element(live, process, timeout, target, value)
+        }
+        Action::Assign(_, _) | Action::Holds(_) => store(live, process, timeout, action, statement),
+        Action::Increment(_) => store(live, process, timeout, action, statement),
+        Action::Decrement(_) => store(live, process, timeout, action, statement),
         _ => does(live, process, timeout, action, text),
     }
 }
