@@ -38,10 +38,10 @@ fn is_for(kind: Kind, opener: Kind) -> bool
 }
 
 /// Whether a token closes something, and none of these is meant.
-fn is_one_too_many(tokens: &[Token<'_>], open: &[usize], at: usize) -> bool
-    ensures { result ≡ beside.is_one_too_many tokens.now open.now at }
+fn is_one_too_many(tokens: &[Token<'_>], openers: &[usize], at: usize) -> bool
+    ensures { result ≡ beside.is_one_too_many tokens.now openers.now at }
 {
-    for opener in open {
+    for opener in openers {
         if is_for(kind_at(tokens, at), kind_at(tokens, *opener)) {
             return false;
         }
@@ -50,13 +50,13 @@ fn is_one_too_many(tokens: &[Token<'_>], open: &[usize], at: usize) -> bool
 }
 
 /// Of a token that closes the last of these, or else nothing.
-fn closed_by(tokens: &[Token<'_>], open: &[usize], at: usize) -> Brackets
-    ensures { result ≡ trials.closed_by tokens.now open.now at }
+fn closed_by(tokens: &[Token<'_>], openers: &[usize], at: usize) -> Brackets
+    ensures { result ≡ trials.closed_by tokens.now openers.now at }
 {
-    if is_one_too_many(tokens, open, at) {
+    if is_one_too_many(tokens, openers, at) {
         return Brackets::Nothing;
     }
-    match innermost(open) {
+    match innermost(openers) {
         Some(opener) => {
             if fits(tokens, opener, at) {
                 Brackets::Right

@@ -6,5 +6,5 @@ use Rattle.explain_syntax.proofs.unclosed.is_one_too_many.Given as goal
 
 abbrev pub invariant-loop-opener : goal.invariant-loop-opener
 invariant-loop-opener l =
-    list_any (λ opener. beside.is_meant_for (kind_at l.tokens l.at) (kind_at l.tokens opener)) (drop l.opener-index l.open)
-    ≡ list_any (λ opener. beside.is_meant_for (kind_at l.tokens l.at) (kind_at l.tokens opener)) l.open
+    list_any (λ opener. beside.is_meant_for (kind_at l.tokens l.at) (kind_at l.tokens opener)) (drop l.opener-index l.openers)
+    ≡ list_any (λ opener. beside.is_meant_for (kind_at l.tokens l.at) (kind_at l.tokens opener)) l.openers
