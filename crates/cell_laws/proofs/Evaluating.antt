@@ -9,7 +9,7 @@ use Rattle.pml_program.specs.declared.expr.Want.{Want}
 use Rattle.pml_program.specs.declared.expr.Turn.{Turn, Turn-F, map-Turn, out-Turn, fold-roll-Turn, roll-out-Turn}
 use Rattle.pml_program.specs.declared.expr.Target.{Target, out-Target, fold-roll-Target, roll-out-Target}
 use Rattle.promela_process.specs.Expressions.{Reading, Valued, Wanted, Placed, Turned, val, want, placed_target, place, turned_by, cells_of, cell_inside, index_inside, index_of, value_step, want_step, target_step, turn_step, ◌>>=◌}
-use Rattle.check_meaning.specs.Tiled.{reached, AreWithin}
+use Rattle.meaning_laws.specs.Tiled.{reached, AreWithin}
 use Rattle.cell_laws.specs.Paths.{IsWorth, AreWorth, cell_at}
 
 is-below : (m n : ℕ) → m < n → nat_lt m n ≡ true

@@ -13,9 +13,9 @@ use Rattle.pml_program.specs.declared.program.Fields.{Fields}
 use Rattle.promela_run.specs.State.{slot_of, cell_of, fields_at as listed_at, fields_of}
 use Rattle.promela_run.specs.Lines.{index_text, element, fields_path}
 use Rattle.promela_model.specs.Stands.{cells_in_all}
-use Rattle.check_meaning.specs.Tiled as tiled
-use Rattle.check_meaning.specs.Tiled.{fields_at, listed, HasWidth, Tile, TypedefsTile, OwnersFrom, is_struct, Leads, fields_under, first_of}
-use Rattle.check_meaning.proofs.Leading.{lies, element as element-in, Good, struct-cells, plain-cells, leads-within}
+use Rattle.meaning_laws.specs.Tiled as tiled
+use Rattle.meaning_laws.specs.Tiled.{fields_at, listed, HasWidth, Tile, TypedefsTile, OwnersFrom, is_struct, Leads, fields_under, first_of}
+use Rattle.meaning_laws.proofs.Leading.{lies, element as element-in, Good, struct-cells, plain-cells, leads-within}
 use Rattle.cell_laws.specs.Paths.{further, spelled}
 
 -- ---- the variable that has a cell

@@ -10,11 +10,11 @@ use Rattle.promela_process.specs.Expressions.{Reading}
 use Rattle.promela_run.specs.Lines.{element, fields_path, path}
 use Rattle.promela_model.specs.Stands.{Place, StandsReference, Globals}
 use Rattle.promela_model.specs.StandsModel.{StandsModel}
-use Rattle.check_meaning.specs.Tiled as tiled
-use Rattle.check_meaning.specs.Tiled.{fields_at, Tile, IsTiled, Leads, IsOwner, reached, variables_of, fields_under, names_along, first_of}
-use Rattle.check_meaning.proofs.Tiling.{model-tiled}
-use Rattle.check_meaning.proofs.Leading.{Good, apart, lies-in, all-tile, tile-at, model-paths}
-use Rattle.check_meaning.proofs.Going.{reference-leads}
+use Rattle.meaning_laws.specs.Tiled as tiled
+use Rattle.meaning_laws.specs.Tiled.{fields_at, Tile, IsTiled, Leads, IsOwner, reached, variables_of, fields_under, names_along, first_of}
+use Rattle.meaning_laws.proofs.Tiling.{model-tiled}
+use Rattle.meaning_laws.proofs.Leading.{Good, apart, lies-in, all-tile, tile-at, model-paths}
+use Rattle.meaning_laws.proofs.Going.{reference-leads}
 use Rattle.cell_laws.specs.Paths.{spelled, Printed, IsAsked, ReadsBack}
 use Rattle.cell_laws.proofs.Printing.{Words, all-before, printed}
 use Rattle.cell_laws.proofs.Evaluating.{target-reaches}

@@ -10,7 +10,7 @@ use Rattle.pml_program.specs.declared.program.Initial.TheVariants as i
 use Rattle.pml_program.specs.declared.program.Slot.{Slot}
 use Rattle.pml_program.specs.declared.program.Program.{Program}
 use Rattle.promela_run.specs.Lines.{path}
-use Rattle.check_meaning.specs.Tiled.{names_along, indices_along}
+use Rattle.meaning_laws.specs.Tiled.{names_along, indices_along}
 use Rattle.cell_laws.specs.Paths.{spelled}
 
 abbrev slot : List ℕ → Form → Bool → ℕ → ℕ → ℕ → Slot

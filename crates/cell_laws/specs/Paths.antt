@@ -11,7 +11,7 @@ use Rattle.promela_process.specs.declared.place.Place.{Place}
 use Rattle.promela_process.specs.Expressions.{Reading, val, place}
 use Rattle.promela_run.specs.Lines.{index_text, path}
 use Rattle.promela_model.specs.Stands.{Place as Meant, StandsReference, Globals}
-use Rattle.check_meaning.specs.Tiled.{is_struct, Leads, AreWithin, AreAmong, variables_of, fields_under, names_along, indices_along, names_of}
+use Rattle.meaning_laws.specs.Tiled.{is_struct, Leads, AreWithin, AreAmong, variables_of, fields_under, names_along, indices_along, names_of}
 
 -- what is behind a step of a path: nothing more, or a dot and the next
 abbrev pub further : List (ℕ × ℕ) → List ℕ → List ℕ

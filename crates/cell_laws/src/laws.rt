@@ -5,7 +5,7 @@ ghost use Rattle.pml_tree.specs.declared.tree.Tree.{Tree};
 ghost use Rattle.pml_program.specs.declared.program.Slot.{Slot};
 ghost use Rattle.pml_program.specs.declared.program.Program.{Program};
 ghost use Rattle.promela_model.specs.StandsModel.{StandsModel};
-ghost use Rattle.check_meaning.specs.Tiled.{IsOwner};
+ghost use Rattle.meaning_laws.specs.Tiled.{IsOwner};
 ghost use Rattle.cell_laws.specs.Paths.{ArePrinted, AreReadBack};
 
 /// In a model that a tree stands for, what a value line prints for a cell of a variable is the one path that leads to it, in words:

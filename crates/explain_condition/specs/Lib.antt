@@ -1,3 +1,4 @@
 pub mod Signs
 pub mod Causes
 pub mod Walks
+pub mod Told

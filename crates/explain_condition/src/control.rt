@@ -1,7 +1,8 @@
 //! Breaks and d_steps.
 
-ghost use Rattle.std.specs.Prelude.{◌≡◌, true, OnOk, IfSome};
+ghost use Rattle.std.specs.Prelude.{◌≡◌, nat_eq, ◌&&◌, true, IfSome, IfOk};
 ghost use Rattle.explain_condition.specs.Causes.{is_control};
+ghost use Rattle.explain_condition.specs.Told as told_of;
 
 use crate::sign::{Lookup, NamedMark, Saying, first_name, front, place_of_name, sign_at, sign_of};
 use explain_cause::brackets::closing;
@@ -23,7 +24,9 @@ fn breaks_in(marks: &[Mark<'_>]) -> usize {
 }
 
 /// The place of the `break` that a mark is, where `breaks` are how many bytes stand before each of the text.
-fn break_place(breaks: &[Option<u32>], marks: &[Mark<'_>], at: usize) -> Option<Segment> {
+fn break_place(breaks: &[Option<u32>], marks: &[Mark<'_>], at: usize) -> Option<Segment>
+    ensures { IfSome result (λ place. place.length ≡ 5) }
+{
     match breaks.get(breaks_in(front(marks, at))) {
         Some(Some(offset)) => Some(Segment {
             offset: *offset as usize,
@@ -61,7 +64,9 @@ pub fn of_break<'t>(breaks: &[Option<u32>], marks: &[Mark<'_>], at: usize) -> Fi
 }
 
 /// Whether a mark is a label or a goto whose name stands behind so many bytes of the text.
-fn is_at(sign: NamedMark<'_>, offset: usize) -> bool {
+fn is_at(sign: NamedMark<'_>, offset: usize) -> bool
+    ensures { result ≡ (told_of.is_goal sign.entry.matter && nat_eq sign.entry.name.offset offset) }
+{
     matches!(sign.matter, Saying::Label | Saying::Goto) && sign.name.offset == offset
 }
 
@@ -93,7 +98,9 @@ fn step_of(
 }
 
 /// Whether a goto leaves its d_step, or else enters another.
-fn leaves(from: Option<usize>, to: Option<usize>) -> bool {
+fn leaves(from: Option<usize>, to: Option<usize>) -> bool
+    ensures { result ≡ told_of.leaves from to }
+{
     match (from, to) {
         (Some(from), Some(to)) => to < from,
         (Some(_), None) => true,
@@ -101,7 +108,9 @@ fn leaves(from: Option<usize>, to: Option<usize>) -> bool {
     }
 }
 
-fn crossing<'t>(target: Named<'t>, from: Option<usize>, to: Option<usize>) -> ControlCause<'t> {
+fn crossing<'t>(target: Named<'t>, from: Option<usize>, to: Option<usize>) -> ControlCause<'t>
+    ensures { result ≡ told_of.crossing target.entry from to }
+{
     if leaves(from, to) {
         ControlCause::GotoLeaves(target)
     } else {
@@ -116,7 +125,9 @@ fn of_target<'t>(
     marks: &[Mark<'_>],
     name: Named<'t>,
     target: Named<'t>,
-) -> Result<Option<Controlled<'t>>, AllocError> {
+) -> Result<Option<Controlled<'t>>, AllocError>
+    ensures { IfOk result (λ found. IfSome found (λ it. IfSome it.place (λ place. place.offset ≡ name.entry.offset))) }
+{
     let from = step_of(alloc, text, marks, name.offset)?;
     let to = step_of(alloc, text, marks, target.offset)?;
     let place = Some(place_of_name(name));
@@ -130,7 +141,9 @@ fn of_goto<'t>(
     marks: &[Mark<'_>],
     owner: usize,
     name: Named<'t>,
-) -> Result<Option<Controlled<'t>>, AllocError> {
+) -> Result<Option<Controlled<'t>>, AllocError>
+    ensures { IfOk result (λ found. IfSome found (λ it. IfSome it.place (λ place. place.offset ≡ name.entry.offset))) }
+{
     match first_name(text, marks, Lookup::Label(owner), name.name) {
         Some(target) => of_target(alloc, text, marks, name, target),
         None => Ok(None),
@@ -192,7 +205,7 @@ pub fn of_step<'t>(
     marks: &[Mark<'_>],
     at: usize,
 ) -> Result<Finding<'t>, AllocError>
-    ensures { OnOk result (λ found. is_control found.cause ≡ true) }
+    ensures { IfOk result (λ found. is_control found.cause ≡ true) }
 {
     match step_at(alloc, text, tokens, breaks, marks, at) {
         Ok(controlled) => Ok(told_step(controlled)),

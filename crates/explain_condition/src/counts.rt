@@ -1,6 +1,6 @@
 //! Wrong numbers of arguments, and labels.
 
-ghost use Rattle.std.specs.Prelude.{◌≡◌, ◌≤◌, ◌-◌, length, take, true, option_map, OnOk, IfSome};
+ghost use Rattle.std.specs.Prelude.{◌≡◌, ◌≤◌, ◌-◌, length, take, true, option_map, IfSome, IfOk};
 ghost use Rattle.explain_condition.specs.Causes.{is_count, is_label};
 
 use crate::near::{InScope, nearest};
@@ -165,7 +165,7 @@ fn of_missing<'t>(
     owner: usize,
     name: Named<'t>,
 ) -> Result<Option<Labelled<'t>>, AllocError>
-    ensures { OnOk result (λ found. IfSome found (λ labelled. labelled.name.offset ≡ name.entry.offset)) }
+    ensures { IfOk result (λ found. IfSome found (λ labelled. labelled.name.offset ≡ name.entry.offset)) }
 {
     let sort = NameSort::Label;
     let near = nearest(alloc, text, marks, InScope { sort, owner }, name.name)?;
@@ -181,7 +181,7 @@ fn of_goto<'t>(
     owner: usize,
     name: Named<'t>,
 ) -> Result<Option<Labelled<'t>>, AllocError>
-    ensures { OnOk result (λ found. IfSome found (λ labelled. labelled.name.offset ≡ name.entry.offset)) }
+    ensures { IfOk result (λ found. IfSome found (λ labelled. labelled.name.offset ≡ name.entry.offset)) }
 {
     match first_name(text, marks, Lookup::AnyLabel, name.name) {
         Some(other) => {
@@ -240,7 +240,7 @@ pub fn of_label<'t>(
     marks: &[Mark<'_>],
     at: usize,
 ) -> Result<Finding<'t>, AllocError>
-    ensures { OnOk result (λ found. is_label found.cause ≡ true) }
+    ensures { IfOk result (λ found. is_label found.cause ≡ true) }
 {
     match label_at(alloc, text, marks, at) {
         Ok(labelled) => Ok(told_label(labelled)),

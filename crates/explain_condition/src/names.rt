@@ -1,7 +1,8 @@
 //! Names that stand twice, and names that are not declared.
 
-ghost use Rattle.std.specs.Prelude.{◌≡◌, true, OnOk, IfSome};
+ghost use Rattle.std.specs.Prelude.{◌≡◌, true, IfSome, IfOk};
 ghost use Rattle.explain_condition.specs.Causes.{is_twice, is_unknown};
+ghost use Rattle.explain_condition.specs.Told as told_of;
 
 use crate::near::{InScope, nearest, nearest_word};
 use crate::sign::{
@@ -112,7 +113,9 @@ fn declared_otherwise<'t>(
 }
 
 /// How many marks may declare what is wanted: a proctype may be declared behind its use.
-fn declaring(all: usize, at: usize, sort: NameSort) -> usize {
+fn declaring(all: usize, at: usize, sort: NameSort) -> usize
+    ensures { result ≡ told_of.declaring all at sort }
+{
     match sort {
         NameSort::Proctype => all,
         _ => at,
@@ -120,7 +123,9 @@ fn declaring(all: usize, at: usize, sort: NameSort) -> usize {
 }
 
 /// Whether a word of another language may as well be a variable that was not declared, as `lock` or `size`.
-fn is_thing(foreign: Foreign) -> bool {
+fn is_thing(foreign: Foreign) -> bool
+    ensures { result ≡ told_of.is_thing foreign }
+{
     matches!(
         foreign,
         Foreign::Lock
@@ -171,7 +176,7 @@ fn nowhere<'t>(
     name: Named<'t>,
     wish: InScope,
 ) -> Result<Option<Unknown<'t>>, AllocError>
-    ensures { OnOk result (λ found. IfSome found (λ unknown. unknown.name.offset ≡ name.entry.offset)) }
+    ensures { IfOk result (λ found. IfSome found (λ unknown. unknown.name.offset ≡ name.entry.offset)) }
 {
     let cause = match nearest(alloc, text, seen, wish, name.name)? {
         Some(near) => UnknownCause::Nowhere(wish.sort, name.name, Some(near)),
@@ -200,7 +205,7 @@ fn of_missing<'t>(
     name: Named<'t>,
     wish: InScope,
 ) -> Result<Option<Unknown<'t>>, AllocError>
-    ensures { OnOk result (λ found. IfSome found (λ unknown. unknown.name.offset ≡ name.entry.offset)) }
+    ensures { IfOk result (λ found. IfSome found (λ unknown. unknown.name.offset ≡ name.entry.offset)) }
 {
     match declared_otherwise(text, marks, at, name.name, wish) {
         Some(cause) => Ok(Some(of_later(name, cause))),
@@ -220,7 +225,7 @@ fn no_field<'t>(
     holder: Named<'t>,
     owner: usize,
 ) -> Result<Option<Unknown<'t>>, AllocError>
-    ensures { OnOk result (λ found. IfSome found (λ unknown. unknown.name.offset ≡ name.entry.offset)) }
+    ensures { IfOk result (λ found. IfSome found (λ unknown. unknown.name.offset ≡ name.entry.offset)) }
 {
     let sort = NameSort::Field;
     let near = nearest(alloc, text, marks, InScope { sort, owner }, name.name)?;
@@ -236,7 +241,7 @@ fn of_lacking<'t>(
     name: Named<'t>,
     owner: usize,
 ) -> Result<Option<Unknown<'t>>, AllocError>
-    ensures { OnOk result (λ found. IfSome found (λ unknown. unknown.name.offset ≡ name.entry.offset)) }
+    ensures { IfOk result (λ found. IfSome found (λ unknown. unknown.name.offset ≡ name.entry.offset)) }
 {
     match first_name(text, marks, Lookup::Fields(owner), b"") {
         Some(holder) => no_field(alloc, text, marks, name, holder, owner),
@@ -339,7 +344,7 @@ pub fn of_unknown<'t>(
     marks: &[Mark<'_>],
     at: usize,
 ) -> Result<Finding<'t>, AllocError>
-    ensures { OnOk result (λ found. is_unknown found.cause ≡ true) }
+    ensures { IfOk result (λ found. is_unknown found.cause ≡ true) }
 {
     match unknown_at(alloc, text, marks, at) {
         Ok(unknown) => Ok(told(unknown)),

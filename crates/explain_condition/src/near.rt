@@ -1,6 +1,6 @@
 //! The nearest name.
 
-ghost use Rattle.std.specs.Prelude.{◌≡◌, ◌<◌, ◌≤◌, length, true, OnOk, IfSome};
+ghost use Rattle.std.specs.Prelude.{◌≡◌, ◌<◌, ◌≤◌, length, true, IfSome, IfOk};
 ghost use Rattle.explain_condition.specs.Causes.{is_of_sort};
 
 use crate::sign::{NamedMark, Saying, sign_of};
@@ -50,7 +50,7 @@ fn may_stand(sign: NamedMark<'_>, wish: InScope) -> bool
 
 /// How many letters differ, are put in, left out or swapped, at most a third of them.
 fn distance(alloc: Global, name: &[u8], other: &[u8]) -> Result<Option<usize>, AllocError>
-    ensures { OnOk result (λ most. IfSome most (λ count. count < length name.now)) }
+    ensures { IfOk result (λ most. IfSome most (λ count. count < length name.now)) }
 {
     if name.len() > MOST_COMPARED || other.len() > MOST_COMPARED {
         return Ok(None);

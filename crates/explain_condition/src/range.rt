@@ -1,7 +1,8 @@
 //! Numbers out of range, and too many cells.
 
-ghost use Rattle.std.specs.Prelude.{◌≡◌, true, option_map, IfSome};
+ghost use Rattle.std.specs.Prelude.{◌≡◌, true, false, option_map, IfSome};
 ghost use Rattle.explain_condition.specs.Causes.{is_range};
+ghost use Rattle.explain_condition.specs.Told as told_of;
 
 use crate::sign::{
     NamedMark, Saying, behind, front, is_declared, last_proctype, next_name, place_of_name, sign_at,
@@ -21,7 +22,10 @@ struct Ranged<'t> {
 }
 
 /// A cause, by what a constant expression gives.
-fn of_constant<'t>(name: &'t [u8], constant: Constant, outside: RangeCause<'t>) -> RangeCause<'t> {
+fn of_constant<'t>(name: &'t [u8], constant: Constant, outside: RangeCause<'t>) -> RangeCause<'t>
+    ensures outside { told_of.is_number constant ≡ true → result ≡ outside.entry }
+    ensures divided { told_of.is_number constant ≡ false → told_of.is_divided result ≡ true }
+{
     match constant {
         Constant::Is(_) => outside,
         _ => RangeCause::Divides(name),
@@ -36,13 +40,16 @@ fn number_of(constant: Constant) -> i32 {
 }
 
 fn of_name<'t>(name: Named<'t>, cause: RangeCause<'t>) -> Ranged<'t>
-    ensures { result.place.offset ≡ name.entry.offset }
+    ensures place { result.place.offset ≡ name.entry.offset }
+    ensures cause { result.cause ≡ cause.entry }
 {
     let place = place_of_name(name);
     Ranged { place, cause }
 }
 
-fn of_starts<'t>(tokens: &[Token<'_>], name: Named<'t>, constant: Constant) -> Ranged<'t> {
+fn of_starts<'t>(tokens: &[Token<'_>], name: Named<'t>, constant: Constant) -> Ranged<'t>
+    ensures { told_of.is_of_starts result.cause ≡ true }
+{
     let outside = RangeCause::Count(name.name, number_of(constant));
     Ranged {
         place: place_in(tokens, name, DeclarationPart::Count),
@@ -55,7 +62,9 @@ fn of_channel<'t>(
     name: Named<'t>,
     constant: Constant,
     fields: usize,
-) -> Ranged<'t> {
+) -> Ranged<'t>
+    ensures { told_of.is_of_channel result.cause ≡ true }
+{
     if fields > MOST_FIELDS && matches!(constant, Constant::Is(0..=65535)) {
         return of_name(name, RangeCause::Fields(name.name, fields));
     }
@@ -66,7 +75,9 @@ fn of_channel<'t>(
     }
 }
 
-fn of_size<'t>(tokens: &[Token<'_>], name: Named<'t>, constant: Constant) -> Ranged<'t> {
+fn of_size<'t>(tokens: &[Token<'_>], name: Named<'t>, constant: Constant) -> Ranged<'t>
+    ensures { told_of.is_of_size result.cause ≡ true }
+{
     let outside = RangeCause::Size(name.name, number_of(constant));
     Ranged {
         place: place_in(tokens, name, DeclarationPart::Size),
@@ -75,7 +86,9 @@ fn of_size<'t>(tokens: &[Token<'_>], name: Named<'t>, constant: Constant) -> Ran
 }
 
 /// Of a size, a channel or an initialiser in the declaration of this name.
-fn of_declared<'t>(tokens: &[Token<'_>], name: Named<'t>, matter: Saying) -> Ranged<'t> {
+fn of_declared<'t>(tokens: &[Token<'_>], name: Named<'t>, matter: Saying) -> Ranged<'t>
+    ensures { told_of.is_of_declared result.cause ≡ true }
+{
     match matter {
         Saying::Channel(constant, fields) => of_channel(tokens, name, constant, fields),
         Saying::Misplaced(constant, fields) => of_channel(tokens, name, constant, fields),
@@ -94,7 +107,9 @@ fn of_value<'t>(
     marks: &[Mark<'_>],
     at: usize,
     matter: Saying,
-) -> Option<Ranged<'t>> {
+) -> Option<Ranged<'t>>
+    ensures { IfSome result (λ it. told_of.is_of_value it.cause ≡ true) }
+{
     if let Saying::Starts(constant) = matter {
         let name = last_proctype(text, front(marks, at))?;
         return Some(of_starts(tokens, name, constant));
@@ -142,7 +157,9 @@ pub fn of_range<'t>(
 }
 
 /// Of what has too many cells, and the marks from it on.
-fn of_sign<'t>(text: &'t [u8], rest: &[Mark<'_>], sign: NamedMark<'t>) -> Option<Ranged<'t>> {
+fn of_sign<'t>(text: &'t [u8], rest: &[Mark<'_>], sign: NamedMark<'t>) -> Option<Ranged<'t>>
+    ensures { IfSome result (λ it. told_of.is_of_cells it.cause ≡ true) }
+{
     match sign.matter {
         Saying::Channel(_, _) | Saying::Misplaced(_, _) => {
             let name = next_name(text, rest)?;

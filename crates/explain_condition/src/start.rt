@@ -1,8 +1,9 @@
 //! The first state.
 
-ghost use Rattle.std.specs.Prelude.{◌≡◌, ◌<◌, ◌≤◌, length, true, OnOk, IfSome};
+ghost use Rattle.std.specs.Prelude.{◌≡◌, ◌<◌, ◌≤◌, length, true, IfSome, IfOk};
 ghost use Rattle.check_names.specs.Env.{env};
 ghost use Rattle.explain_condition.specs.Causes.{is_start};
+ghost use Rattle.explain_condition.specs.Told as told_of;
 
 use crate::sign::{behind, front, last_proctype, next_name, place_of_name};
 use check_conditions::decide::applies;
@@ -116,7 +117,9 @@ fn full_of(alloc: Global, marks: &[Mark<'_>]) -> Result<Full, AllocError> {
     }
 }
 
-fn of_full<'t>(text: &'t [u8], marks: &[Mark<'_>], full: Full) -> Option<Started<'t>> {
+fn of_full<'t>(text: &'t [u8], marks: &[Mark<'_>], full: Full) -> Option<Started<'t>>
+    ensures { IfSome result (λ it. told_of.is_of_full it.cause ≡ true) }
+{
     match full {
         Full::Processes(at) => {
             let name = last_proctype(text, front(marks, at))?;
@@ -146,7 +149,7 @@ pub fn of_start<'t>(
     text: &'t [u8],
     marks: &[Mark<'_>],
 ) -> Result<Finding<'t>, AllocError>
-    ensures { OnOk result (λ found. is_start found.cause ≡ true) }
+    ensures { IfOk result (λ found. is_start found.cause ≡ true) }
 {
     match full_of(alloc, marks) {
         Ok(full) => Ok(told(of_full(text, marks, full))),

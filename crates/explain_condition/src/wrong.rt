@@ -1,7 +1,8 @@
 //! Names and values of the wrong kind.
 
-ghost use Rattle.std.specs.Prelude.{◌≡◌, length, true, option_map, OnOk, IfSome};
+ghost use Rattle.std.specs.Prelude.{◌≡◌, ◌≢◌, not, length, true, option_map, IfSome, IfOk};
 ghost use Rattle.explain_condition.specs.Causes.{is_wrong, sort_of as sort_there};
+ghost use Rattle.explain_condition.specs.Told as told_of;
 ghost use Rattle.explain_condition.specs.Walks.{offset_at, told_number, end_told};
 
 use crate::sign::{
@@ -43,7 +44,9 @@ fn of_name<'t>(name: Named<'t>, cause: WrongCause<'t>) -> Option<Wrong<'t>>
 }
 
 /// Whether a reference is a name alone.
-fn is_plain(steps: &[Shape<'_>]) -> bool {
+fn is_plain(steps: &[Shape<'_>]) -> bool
+    ensures { result ≡ told_of.is_plain steps.now }
+{
     match steps {
         [first] => !first.indexed,
         _ => false,
@@ -115,7 +118,9 @@ fn of_array<'t>(
 }
 
 /// Of an array without an index: of channels, or of something else where a channel is wanted.
-fn of_missing<'t>(how: Use, array: Named<'t>, end: ReferenceEnd) -> WrongCause<'t> {
+fn of_missing<'t>(how: Use, array: Named<'t>, end: ReferenceEnd) -> WrongCause<'t>
+    ensures { told_of.is_for_channel result ≡ told_of.wants_channel how end }
+{
     let is_channel = matches!(end, ReferenceEnd::Form(Form::Plain(Scalar::Chan)));
     match how {
         Use::Channel if !is_channel => WrongCause::ArrayForChannel(array.name),
@@ -166,7 +171,9 @@ fn of_constant<'t>(how: Use, name: Named<'t>, plain: bool) -> Option<Wrong<'t>>
     }
 }
 
-fn special<'t>(used: Used, name: Named<'t>, plain: bool) -> WrongCause<'t> {
+fn special<'t>(used: Used, name: Named<'t>, plain: bool) -> WrongCause<'t>
+    ensures { told_of.is_special result ≡ true }
+{
     let is_read = matches!(used.how, Use::Read);
     if !plain {
         WrongCause::NotPlain(name.name)
@@ -250,7 +257,9 @@ fn declaration_of<'t>(
 }
 
 /// Of a size, a capacity or an initialiser that is wrong, or a channel behind another type, of this name.
-fn of_declared<'t>(tokens: &[Token<'_>], name: Named<'t>, matter: Saying) -> Wrong<'t> {
+fn of_declared<'t>(tokens: &[Token<'_>], name: Named<'t>, matter: Saying) -> Wrong<'t>
+    ensures { told_of.is_holder result.cause ≡ not (told_of.is_open matter) }
+{
     match matter {
         Saying::Size(_) => Wrong {
             place: place_in(tokens, name, DeclarationPart::Size),
@@ -343,7 +352,9 @@ fn declared_before<'t>(
     at: usize,
     owner: usize,
     name: Named<'t>,
-) -> Option<usize> {
+) -> Option<usize>
+    ensures { IfSome result (λ first. first ≢ name.entry.offset) }
+{
     let first = declaration_of(text, marks, at, owner, name).offset;
     if first == name.offset || is_special(name.name) {
         None
@@ -386,7 +397,7 @@ pub fn of_wrong<'t>(
     marks: &[Mark<'_>],
     at: usize,
 ) -> Result<Finding<'t>, AllocError>
-    ensures { OnOk result (λ found. is_wrong found.cause ≡ true) }
+    ensures { IfOk result (λ found. is_wrong found.cause ≡ true) }
 {
     match wrong_at(alloc, text, tokens, marks, at) {
         Ok(wrong) => Ok(told(wrong, declared_at(text, marks, at))),

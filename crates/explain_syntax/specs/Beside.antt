@@ -1,5 +1,6 @@
 -- What stands beside a token of a list.
-use Rattle.std.specs.Prelude.{ℕ, ◌-◌, nat_le, nat_lt, Bool, true, ◌&&◌, if◌then◌else◌, List, length, slice_get, Option, Some, None}
+use Rattle.std.specs.Prelude.{ℕ, ◌+◌, ◌-◌, ◌^◌, min, nat_le, nat_lt, Bool, true, false, ◌&&◌, ◌||◌, not, if◌then◌else◌, List, length, slice_get, Option, Some, None}
+use Rattle.std.specs.List.{list_any}
 use Rattle.pml_token.specs.declared.token.Kind.{Kind}
 use Rattle.pml_token.specs.declared.token.Kind.TheVariants as kind
 use Rattle.pml_token.specs.Word.{same_kind, Word}
@@ -46,3 +47,87 @@ is_select_range ts at =
 abbrev pub passes : Option ℕ → ℕ → Bool
 passes None aim = true
 passes (Some place) aim = nat_lt aim place
+
+-- the place behind one, as a machine counts
+abbrev pub next : ℕ → ℕ
+next at = min (at + 1) (2 ^ 64 - 1)
+
+-- the kind of the token directly behind one
+abbrev pub kind_behind : List Word → ℕ → Kind
+kind_behind ts at = kind_at ts (next at)
+
+-- `(` or `[`
+abbrev pub is_bracket : Kind → Bool
+is_bracket kind.OpenParen = true
+is_bracket kind.OpenBracket = true
+is_bracket k = false
+
+-- `if` or `do`
+abbrev pub is_choice : Kind → Bool
+is_choice kind.If = true
+is_choice kind.Do = true
+is_choice k = false
+
+-- a token closes what another opens, or may be meant for it
+abbrev pub is_meant_for : Kind → Kind → Bool
+is_meant_for kind.CloseParen opener = is_bracket opener
+is_meant_for kind.CloseBracket opener = is_bracket opener
+is_meant_for kind.Fi opener = is_choice opener
+is_meant_for kind.Od opener = is_choice opener
+is_meant_for k opener = true
+
+-- a token that closes something, and is meant for nothing of what is open
+abbrev pub is_one_too_many : List Word → List ℕ → ℕ → Bool
+is_one_too_many ts openers at = not (list_any (λ opener. is_meant_for (kind_at ts at) (kind_at ts opener)) openers)
+
+-- `proctype` or `typedef`
+abbrev pub is_naming : Kind → Bool
+is_naming kind.Proctype = true
+is_naming kind.Typedef = true
+is_naming k = false
+
+-- what stands behind the name of a declaration
+abbrev pub is_behind_name : Kind → Bool
+is_behind_name kind.Semicolon = true
+is_behind_name kind.Comma = true
+is_behind_name kind.Assign = true
+is_behind_name kind.OpenBracket = true
+is_behind_name k = false
+
+-- `( , ;`, behind which a parameter begins
+abbrev pub begins_parameter : Kind → Bool
+begins_parameter kind.OpenParen = true
+begins_parameter kind.Comma = true
+begins_parameter kind.Semicolon = true
+begins_parameter k = false
+
+-- a parameter of a proctype without a type, directly before a token
+abbrev pub is_untyped : List Word → ℕ → ℕ → Bool
+is_untyped ts opener at =
+    is_before ts opener 2 kind.Proctype && is_before ts at 1 kind.Name && begins_parameter (kind_before ts at 2)
+
+-- a `;`, a `::`, or in brackets a `=` or a `->`
+abbrev pub ends_inside : List Word → ℕ → Kind → Bool
+ends_inside ts opener kind.Semicolon = true
+ends_inside ts opener kind.DoubleColon = true
+ends_inside ts opener kind.Assign = same_kind (kind_at ts opener) kind.OpenBracket
+ends_inside ts opener kind.Arrow = same_kind (kind_at ts opener) kind.OpenBracket
+ends_inside ts opener k = false
+
+-- a range of a loop that has one end alone where its `)` stands
+abbrev pub is_half_range : List Word → ℕ → ℕ → Bool
+is_half_range ts opener at =
+    is_before ts opener 1 kind.For && same_kind (kind_at ts (min (opener + 2) (2 ^ 64 - 1))) kind.Colon
+    && same_kind (kind_at ts at) kind.CloseParen
+
+-- what ends a statement behind an `if` or a `do` that is meant for its `fi` or `od`
+abbrev pub ends_last : Kind → Bool
+ends_last kind.CloseBrace = true
+ends_last kind.End = true
+ends_last kind.Semicolon = true
+ends_last kind.Fi = true
+ends_last kind.Od = true
+ends_last k = false
+
+abbrev pub is_last_word : List Word → ℕ → Bool
+is_last_word ts at = is_choice (kind_at ts at) && ends_last (kind_behind ts at)

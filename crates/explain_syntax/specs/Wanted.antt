@@ -1,5 +1,5 @@
 -- What is told by what: the sorts of what is wanted.
-use Rattle.std.specs.Prelude.{Bool, true, false, Option, Some, None}
+use Rattle.std.specs.Prelude.{Bool, true, false, ◌||◌, Option, Some, None}
 use Rattle.explain_cause.specs.declared.foreign.Foreign.{Foreign}
 use Rattle.explain_cause.specs.declared.foreign.Foreign.TheVariants as foreign
 use Rattle.explain_cause.specs.declared.cause.Named.{Named}
@@ -43,15 +43,17 @@ is_word (wanted.Word n w) = true
 is_word e = false
 
 -- a variable or a call that stands for another thing
-abbrev pub is_call : Expected → Bool
-is_call (wanted.Index n) = true
-is_call (wanted.Inline n d) = true
-is_call (wanted.ForeignWord f n) = true
-is_call e = false
-
 abbrev pub is_index : Expected → Bool
 is_index (wanted.Index n) = true
 is_index e = false
+
+abbrev pub is_inline : Expected → Bool
+is_inline (wanted.Inline n d) = true
+is_inline (wanted.ForeignWord f n) = true
+is_inline e = false
+
+abbrev pub is_call : Expected → Bool
+is_call e = is_index e || is_inline e
 
 -- an inline that stands for a value, or for a name
 abbrev pub is_inline_value : Expected → Bool
@@ -298,3 +300,82 @@ is_outside foreign.AtomicUnit = true
 is_outside foreign.Outside = true
 is_outside foreign.OutsideSign = true
 is_outside f = false
+
+-- a form of another language
+abbrev pub is_form : Expected → Bool
+is_form (wanted.Form f) = true
+is_form e = false
+
+-- what is told by a token and those in front of it alone
+abbrev pub is_neighbour : Expected → Bool
+is_neighbour wanted.NoSubtype = true
+is_neighbour wanted.PlainAssignment = true
+is_neighbour (wanted.Arguments n) = true
+is_neighbour (wanted.Operand n) = true
+is_neighbour (wanted.Options n) = true
+is_neighbour wanted.NoRun = true
+is_neighbour (wanted.Form foreign.ElseIf) = true
+is_neighbour e = false
+
+abbrev pub is_by_neighbours : Expected → Bool
+is_by_neighbours e = is_list e || is_neighbour e
+
+-- a word of another language, a form, or a proctype that is called
+abbrev pub is_by_words : Expected → Bool
+is_by_words e = is_foreign e || (is_form e || is_proctype e)
+
+-- a condition that is closed too late
+abbrev pub is_before_arrow : Expected → Bool
+is_before_arrow (wanted.CloserBeforeArrow o n) = true
+is_before_arrow e = false
+
+-- a list or a condition that cannot go on so
+abbrev pub is_unfit : Expected → Bool
+is_unfit e = is_list e || (is_foreign e || is_before_arrow e)
+
+abbrev pub is_closer : Expected → Bool
+is_closer (wanted.CloserBefore n) = true
+is_closer e = false
+
+-- what is told by what is open
+abbrev pub is_of_open : Expected → Bool
+is_of_open e = is_form e || (is_closer e || is_unfit e)
+
+-- a type, or a word that is meant for one
+abbrev pub is_by_type : Expected → Bool
+is_by_type e = is_foreign e || (is_word e || is_typed e)
+
+-- what stands in no braces
+abbrev pub is_of_outside : Expected → Bool
+is_of_outside e = is_foreign e || (is_word e || is_form e)
+
+-- a word for the type of a parameter: a channel is one of its own kind
+abbrev pub of_parameter : Expected → Expected
+of_parameter (wanted.ForeignWord foreign.Channel n) = wanted.ForeignWord foreign.ChannelParameter n
+of_parameter e = e
+
+-- what is told first: by the layout, by words, and by a sign for `->`
+abbrev pub is_meant_first : Expected → Bool
+is_meant_first e = is_by_layout e || (is_arrow e || (is_word e || is_by_type e))
+
+-- what is told by a change of one token, but for a `;`
+abbrev pub is_of_change : Expected → Bool
+is_of_change wanted.Semicolon = true
+is_of_change (wanted.Statement n) = true
+is_of_change wanted.NoRun = true
+is_of_change (wanted.Form foreign.StatementWord) = true
+is_of_change wanted.Name = true
+is_of_change wanted.Nothing = true
+is_of_change wanted.Comma = true
+is_of_change wanted.SemicolonFor = true
+is_of_change wanted.OptionFor = true
+is_of_change wanted.Untold = true
+is_of_change e = false
+
+abbrev pub is_option : Expected → Bool
+is_option wanted.OptionSign = true
+is_option e = false
+
+-- what is told by reading the tokens once more
+abbrev pub is_by_trial : Expected → Bool
+is_by_trial e = is_option e || (is_between e || (is_one_of e || is_of_change e))

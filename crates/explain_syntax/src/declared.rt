@@ -1,7 +1,10 @@
 //! Slips of declarations and of words that have one form: names side by side or without a type, and what cannot stand there.
 
-ghost use Rattle.std.specs.Prelude.{◌≡◌, true, IfSome};
+ghost use Rattle.std.specs.Prelude.{◌≡◌, true, ◌&&◌, IfSome};
 ghost use Rattle.explain_syntax.specs.Wanted as sorts;
+ghost use Rattle.explain_syntax.specs.Beside as beside;
+ghost use Rattle.explain_cause.specs.Places.{is_among as among};
+ghost use Rattle.pml_token.specs.declared.token.Kind.TheVariants.{Name};
 
 use crate::called::{call_at, definition_of, name_behind};
 use crate::kinds::{
@@ -20,7 +23,9 @@ use explain_cause::place::{between, is_among, is_at, kind_at};
 use pml_token::token::{Kind, Token, same_kind};
 
 /// Whether a name that a type stands before stands directly before a token.
-fn is_typed_name(tokens: &[Token<'_>], at: usize) -> bool {
+fn is_typed_name(tokens: &[Token<'_>], at: usize) -> bool
+    ensures { result ≡ (beside.is_before tokens.now at 1 Name && among (beside.kind_before tokens.now at 2) PLAIN_TYPES) }
+{
     is_before(tokens, at, 1, Kind::Name) && is_among(kind_before(tokens, at, 2), &PLAIN_TYPES)
 }
 
@@ -44,7 +49,9 @@ pub fn behind_parameter(
 }
 
 /// Whether a range of a loop has one end alone where its `)` stands.
-pub fn is_half_range(tokens: &[Token<'_>], opener: usize, at: usize) -> bool {
+pub fn is_half_range(tokens: &[Token<'_>], opener: usize, at: usize) -> bool
+    ensures { result ≡ beside.is_half_range tokens.now opener at }
+{
     let has_colon = is_at(tokens, opener.saturating_add(2), Kind::Colon);
     is_before(tokens, opener, 1, Kind::For) && has_colon && is_at(tokens, at, Kind::CloseParen)
 }

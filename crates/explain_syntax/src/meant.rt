@@ -1,6 +1,6 @@
 //! What is told before what is open and what stands beside a token: by the layout of lines, by words that are mistyped, and by a sign for `->`.
 
-ghost use Rattle.std.specs.Prelude.{◌≡◌, ◌+◌, true, OnOk, IfSome};
+ghost use Rattle.std.specs.Prelude.{◌≡◌, ◌+◌, true, IfSome, IfOk};
 ghost use Rattle.explain_syntax.specs.Wanted as sorts;
 
 use crate::called::is_call;
@@ -25,7 +25,7 @@ fn by_layout<'t>(
     opener: Option<usize>,
     at: usize,
 ) -> Result<Option<Expected<'t>>, AllocError>
-    ensures { OnOk result (λ found. IfSome found (λ wish. sorts.is_by_layout wish ≡ true)) }
+    ensures { IfOk result (λ found. IfSome found (λ wish. sorts.is_by_layout wish ≡ true)) }
 {
     let suspect = if is_among(kind_at(tokens, at), &UNITS) {
         unclosed_by_layout(alloc, text, tokens, opener, at)?
@@ -46,7 +46,7 @@ fn near_type<'t>(
     opener: Option<usize>,
     at: usize,
 ) -> Result<Option<Expected<'t>>, AllocError>
-    ensures { OnOk result (λ found. IfSome found (λ wish. sorts.is_word wish ≡ true)) }
+    ensures { IfOk result (λ found. IfSome found (λ wish. sorts.is_word wish ≡ true)) }
 {
     match opener {
         Some(open) if is_of_fields(tokens, open) => near_at(alloc, text, tokens, at),
@@ -55,7 +55,10 @@ fn near_type<'t>(
 }
 
 /// What is told of a word of another language where it stands for the type of a parameter.
-fn of_parameter(wanted: Expected<'_>) -> Expected<'_> {
+fn of_parameter(wanted: Expected<'_>) -> Expected<'_>
+    ensures meant { result ≡ sorts.of_parameter wanted.entry }
+    ensures foreign { sorts.is_foreign wanted.entry ≡ true → sorts.is_foreign result ≡ true }
+{
     match wanted {
         Expected::ForeignWord(Foreign::Channel, name) => {
             Expected::ForeignWord(Foreign::ChannelParameter, name)
@@ -71,7 +74,9 @@ fn unknown_type<'t>(
     tokens: &[Token<'_>],
     opener: Option<usize>,
     at: usize,
-) -> Result<Option<Expected<'t>>, AllocError> {
+) -> Result<Option<Expected<'t>>, AllocError>
+    ensures { IfOk result (λ found. IfSome found (λ wish. sorts.is_by_type wish ≡ true)) }
+{
     let Some(place) = unknown_before(tokens, opener, at) else {
         return Ok(None);
     };
@@ -110,7 +115,7 @@ fn near_run<'t>(
     tokens: &[Token<'_>],
     at: usize,
 ) -> Result<Option<Expected<'t>>, AllocError>
-    ensures { OnOk result (λ found. IfSome found (λ wish. sorts.is_word wish ≡ true)) }
+    ensures { IfOk result (λ found. IfSome found (λ wish. sorts.is_word wish ≡ true)) }
 {
     if !is_call(tokens, at) || !is_before(tokens, at, 2, Kind::Name) {
         return Ok(None);
@@ -144,7 +149,9 @@ pub fn meant_first<'t>(
     tokens: &[Token<'_>],
     opener: Option<usize>,
     at: usize,
-) -> Result<Option<Expected<'t>>, AllocError> {
+) -> Result<Option<Expected<'t>>, AllocError>
+    ensures { IfOk result (λ found. IfSome found (λ wish. sorts.is_meant_first wish ≡ true)) }
+{
     if let Some(wanted) = by_layout(alloc, text, tokens, opener, at)? {
         return Ok(Some(wanted));
     }
@@ -189,7 +196,7 @@ fn near_joined<'t>(
     tokens: &[Token<'_>],
     at: usize,
 ) -> Result<Option<Expected<'t>>, AllocError>
-    ensures { OnOk result (λ found. IfSome found (λ wish. sorts.is_word wish ≡ true)) }
+    ensures { IfOk result (λ found. IfSome found (λ wish. sorts.is_word wish ≡ true)) }
 {
     let Some(name) = joined_before(text, tokens, at) else {
         return Ok(None);
@@ -207,7 +214,7 @@ pub fn near_unit<'t>(
     tokens: &[Token<'_>],
     at: usize,
 ) -> Result<Option<Expected<'t>>, AllocError>
-    ensures { OnOk result (λ found. IfSome found (λ wish. sorts.is_word wish ≡ true)) }
+    ensures { IfOk result (λ found. IfSome found (λ wish. sorts.is_word wish ≡ true)) }
 {
     let opens = matches!(kind_at(tokens, at), Kind::OpenParen | Kind::OpenBrace);
     if opens && is_before(tokens, at, 1, Kind::Name) && is_before(tokens, at, 2, Kind::Name) {

@@ -67,7 +67,9 @@ pub fn kind_before(tokens: &[Token<'_>], at: usize, count: usize) -> Kind
 }
 
 /// The kind of the token directly behind the one at `at`.
-pub fn kind_behind(tokens: &[Token<'_>], at: usize) -> Kind {
+pub fn kind_behind(tokens: &[Token<'_>], at: usize) -> Kind
+    ensures { result ≡ beside.kind_behind tokens.now at }
+{
     kind_at(tokens, at.saturating_add(1))
 }
 

@@ -1,6 +1,6 @@
 //! Where no rule reads the tokens, and what was wanted there.
 
-ghost use Rattle.std.specs.Prelude.{◌≡◌, length, true, Some, OnOk, IfSome};
+ghost use Rattle.std.specs.Prelude.{◌≡◌, length, true, Some, IfSome, IfOk};
 ghost use Rattle.explain_syntax.specs.Wanted as sorts;
 
 use crate::called::{definition_of, is_call, shown_at, value_at};
@@ -53,7 +53,9 @@ fn list_at<'t>(tokens: &[Token<'_>], at: usize) -> Expected<'t>
 }
 
 /// What is told by the token and those in front of it alone.
-fn by_neighbours<'t>(text: &'t [u8], tokens: &[Token<'_>], at: usize) -> Option<Expected<'t>> {
+fn by_neighbours<'t>(text: &'t [u8], tokens: &[Token<'_>], at: usize) -> Option<Expected<'t>>
+    ensures { IfSome result (λ wish. sorts.is_by_neighbours wish ≡ true) }
+{
     let name = name_before(text, tokens, at, 1).name;
     match neighbours_of(tokens, at) {
         Neighbours::List => Some(list_at(tokens, at)),
@@ -71,13 +73,17 @@ fn by_neighbours<'t>(text: &'t [u8], tokens: &[Token<'_>], at: usize) -> Option<
 }
 
 /// What is told by a word or a number of another language, or else by a form.
-fn by_words<'t>(text: &'t [u8], tokens: &[Token<'_>], at: usize) -> Option<Expected<'t>> {
+fn by_words<'t>(text: &'t [u8], tokens: &[Token<'_>], at: usize) -> Option<Expected<'t>>
+    ensures { IfSome result (λ wish. sorts.is_by_words wish ≡ true) }
+{
     if is_select_range(tokens, at) {
         return Some(Expected::Form(Foreign::SelectRange));
     }
-    let word = number_beside(text, tokens, at).or(foreign_beside(text, tokens, at));
-    if word.is_some() {
-        return word;
+    if let Some(number) = number_beside(text, tokens, at) {
+        return Some(number);
+    }
+    if let Some(word) = foreign_beside(text, tokens, at) {
+        return Some(word);
     }
     match form_at(tokens, at) {
         Some(form) => Some(Expected::Form(form)),
@@ -111,7 +117,10 @@ fn by_call<'t>(
     }
     let name = name_before(text, tokens, at, 1);
     match definition_of(text, originals, name.name) {
-        None => called_variable(text, tokens, at).or(Some(called_name(tokens, at, name))),
+        None => match called_variable(text, tokens, at) {
+            Some(variable) => Some(variable),
+            None => Some(called_name(tokens, at, name)),
+        },
         definition => Some(Expected::Inline(name, definition)),
     }
 }
@@ -142,7 +151,9 @@ fn unfit_within<'t>(
     tokens: &[Token<'_>],
     opener: usize,
     at: usize,
-) -> Option<Expected<'t>> {
+) -> Option<Expected<'t>>
+    ensures { IfSome result (λ wish. sorts.is_unfit wish ≡ true) }
+{
     let kind = kind_at(tokens, at);
     let is_bracket = is_at(tokens, opener, Kind::OpenBracket);
     let is_paren = is_at(tokens, opener, Kind::OpenParen);
@@ -162,7 +173,9 @@ fn within<'t>(
     tokens: &[Token<'_>],
     opener: usize,
     at: usize,
-) -> Option<Expected<'t>> {
+) -> Option<Expected<'t>>
+    ensures { IfSome result (λ wish. sorts.is_of_open wish ≡ true) }
+{
     if let Some(word) = foreign_call(text, tokens, opener) {
         return Some(word);
     }
@@ -182,7 +195,9 @@ fn by_type<'t>(
     text: &'t [u8],
     tokens: &[Token<'_>],
     at: usize,
-) -> Result<Option<Expected<'t>>, AllocError> {
+) -> Result<Option<Expected<'t>>, AllocError>
+    ensures { IfOk result (λ found. IfSome found (λ wish. sorts.is_by_type wish ≡ true)) }
+{
     let Some(wanted) = type_before(text, tokens, at) else {
         return Ok(None);
     };
@@ -218,7 +233,9 @@ fn outside<'t>(
     text: &'t [u8],
     tokens: &[Token<'_>],
     at: usize,
-) -> Result<Expected<'t>, AllocError> {
+) -> Result<Expected<'t>, AllocError>
+    ensures { IfOk result (λ wish. sorts.is_of_outside wish ≡ true) }
+{
     if let Some(wanted) = foreign_beside(text, tokens, at) {
         return Ok(wanted);
     }
@@ -314,7 +331,7 @@ fn at_end<'t>(
     tokens: &[Token<'_>],
     opener: usize,
 ) -> Result<Expected<'t>, AllocError>
-    ensures { OnOk result (λ wish. sorts.is_of_end wish ≡ true) }
+    ensures { IfOk result (λ wish. sorts.is_of_end wish ≡ true) }
 {
     match unclosed_by_layout(alloc, text, tokens, Some(opener), tokens.len())? {
         Some(suspect) => Ok(Expected::EndByLayout(name_at(text, tokens, suspect))),
@@ -345,7 +362,7 @@ fn of_stop<'t>(
     tokens: &[Token<'_>],
     at: usize,
 ) -> Result<Finding<'t>, AllocError>
-    ensures { OnOk result (λ found. sorts.is_syntax found.cause ≡ true) }
+    ensures { IfOk result (λ found. sorts.is_syntax found.cause ≡ true) }
 {
     let token = shown_at(text, originals, tokens, at);
     match wanted_at(alloc, text, originals, tokens, at) {
@@ -370,7 +387,7 @@ pub fn of_syntax<'t>(
     tokens: &[Token<'_>],
     line: u32,
 ) -> Result<Finding<'t>, AllocError>
-    ensures { OnOk result (λ found. sorts.is_syntax found.cause ≡ true) }
+    ensures { IfOk result (λ found. sorts.is_syntax found.cause ≡ true) }
 {
     match stop(alloc, tokens, line) {
         Ok(Some(at)) => {

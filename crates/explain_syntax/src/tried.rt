@@ -1,7 +1,11 @@
 //! What is wanted where no rule reads a token, told by reading the tokens once more with a change of one of them.
 
-ghost use Rattle.std.specs.Prelude.{◌≡◌, true, OnOk};
+ghost use Rattle.std.specs.Prelude.{◌≡◌, true, IfOk};
+ghost use Rattle.pml_token.specs.declared.token.Kind.TheVariants.{Else};
+ghost use Rattle.explain_cause.specs.Places.{kind_at as kind};
+ghost use Rattle.explain_syntax.specs.Trials as trials;
 ghost use Rattle.explain_syntax.specs.Wanted as sorts;
+ghost use Rattle.explain_syntax.specs.Beside as beside;
 
 use crate::classes::classes_at;
 use crate::elements::is_declaration;
@@ -32,7 +36,9 @@ enum Trial {
     Untold,
 }
 
-fn is_opener(tokens: &[Token<'_>], opener: Option<usize>) -> bool {
+fn is_opener(tokens: &[Token<'_>], opener: Option<usize>) -> bool
+    ensures { result ≡ trials.is_in_choice tokens.now opener }
+{
     match opener {
         Some(at) => is_at(tokens, at, Kind::If) || is_at(tokens, at, Kind::Do),
         None => false,
@@ -40,7 +46,9 @@ fn is_opener(tokens: &[Token<'_>], opener: Option<usize>) -> bool {
 }
 
 /// Whether `::` is wanted in front of an `else`: it stands in a selection or a loop, and not behind `::`.
-fn wants_option(alloc: Global, tokens: &[Token<'_>], at: usize) -> Result<bool, AllocError> {
+fn wants_option(alloc: Global, tokens: &[Token<'_>], at: usize) -> Result<bool, AllocError>
+    ensures { IfOk result (λ wants. wants ≡ true → kind tokens.now at ≡ Else) }
+{
     if !is_at(tokens, at, Kind::Else) {
         return Ok(false);
     }
@@ -64,7 +72,9 @@ fn begins_option(tokens: &[Token<'_>], at: usize) -> bool {
 }
 
 /// What is told by a `,` or a `:` that another sign may stand in place of.
-fn by_sign(alloc: Global, tokens: &[Token<'_>], at: usize) -> Result<Trial, AllocError> {
+fn by_sign(alloc: Global, tokens: &[Token<'_>], at: usize) -> Result<Trial, AllocError>
+    ensures { IfOk result (λ trial. trials.is_sign trial ≡ true) }
+{
     let kind = kind_at(tokens, at);
     let is_colon = same_kind(kind, Kind::Colon);
     if !is_colon && !same_kind(kind, Kind::Comma) {
@@ -82,7 +92,9 @@ fn by_sign(alloc: Global, tokens: &[Token<'_>], at: usize) -> Result<Trial, Allo
 }
 
 /// What is told by leaving a sign out, or by a `,` before a token.
-fn by_less(alloc: Global, tokens: &[Token<'_>], at: usize) -> Result<Trial, AllocError> {
+fn by_less(alloc: Global, tokens: &[Token<'_>], at: usize) -> Result<Trial, AllocError>
+    ensures { IfOk result (λ trial. trials.is_less trial ≡ true) }
+{
     let is_sign = matches!(
         kind_at(tokens, at),
         Kind::Semicolon | Kind::Comma | Kind::Arrow | Kind::Dot
@@ -106,7 +118,9 @@ fn is_name_wanted(alloc: Global, tokens: &[Token<'_>], at: usize) -> Result<bool
 }
 
 /// What is told by reading the tokens with another one in the place of one of them.
-fn by_change(alloc: Global, tokens: &[Token<'_>], at: usize) -> Result<Trial, AllocError> {
+fn by_change(alloc: Global, tokens: &[Token<'_>], at: usize) -> Result<Trial, AllocError>
+    ensures { IfOk result (λ trial. trials.is_change trial ≡ true) }
+{
     if same_kind(kind_at(tokens, at), Kind::Run) && !is_named_there(tokens, at) {
         return Ok(Trial::Run);
     }
@@ -179,7 +193,9 @@ fn end_of_condition(tokens: &[Token<'_>], at: usize) -> usize {
 }
 
 /// Whether an `if` or a `do` stands directly before what ends a statement, as one that is meant for its `fi` or `od`.
-fn is_last_word(tokens: &[Token<'_>], at: usize) -> bool {
+fn is_last_word(tokens: &[Token<'_>], at: usize) -> bool
+    ensures { result ≡ beside.is_last_word tokens.now at }
+{
     matches!(kind_at(tokens, at), Kind::If | Kind::Do)
         && matches!(
             kind_behind(tokens, at),
@@ -239,7 +255,7 @@ fn semicolon<'t>(
     at: usize,
     shown: Named<'t>,
 ) -> Result<Expected<'t>, AllocError>
-    ensures { OnOk result (λ wish. sorts.is_between wish ≡ true) }
+    ensures { IfOk result (λ wish. sorts.is_between wish ≡ true) }
 {
     let is_first = at > 0 && begins_line(text, shown.offset);
     if !is_first && !is_last_word(tokens, at) {
@@ -262,7 +278,9 @@ fn is_declared_at(tokens: &[Token<'_>], at: usize) -> bool {
 }
 
 /// What is wanted in place of the token, or in front of it, but for a `;`.
-fn by_trial<'t>(text: &'t [u8], tokens: &[Token<'_>], at: usize, trial: Trial) -> Expected<'t> {
+fn by_trial<'t>(text: &'t [u8], tokens: &[Token<'_>], at: usize, trial: Trial) -> Expected<'t>
+    ensures { sorts.is_of_change result ≡ true }
+{
     match trial {
         Trial::Semicolon => Expected::Semicolon,
         Trial::Statement => Expected::Statement(name_before(text, tokens, at, 2).name),
@@ -280,7 +298,7 @@ fn by_trial<'t>(text: &'t [u8], tokens: &[Token<'_>], at: usize, trial: Trial) -
 
 /// What may stand there, by class.
 fn one_of<'t>(alloc: Global, tokens: &[Token<'_>], at: usize) -> Result<Expected<'t>, AllocError>
-    ensures { OnOk result (λ wish. sorts.is_one_of wish ≡ true) }
+    ensures { IfOk result (λ wish. sorts.is_one_of wish ≡ true) }
 {
     let classes = classes_at(alloc, tokens, at)?;
     if classes.first.is_none() {
@@ -298,7 +316,9 @@ fn wanted_of<'t>(
     at: usize,
     shown: Named<'t>,
     trial: Trial,
-) -> Result<Expected<'t>, AllocError> {
+) -> Result<Expected<'t>, AllocError>
+    ensures { IfOk result (λ wish. sorts.is_by_trial wish ≡ true) }
+{
     match trial {
         Trial::Semicolon => semicolon(alloc, text, tokens, at, shown),
         Trial::Untold => one_of(alloc, tokens, at),
@@ -313,7 +333,9 @@ pub fn wanted_by_trial<'t>(
     tokens: &[Token<'_>],
     at: usize,
     shown: Named<'t>,
-) -> Result<Expected<'t>, AllocError> {
+) -> Result<Expected<'t>, AllocError>
+    ensures { IfOk result (λ wish. sorts.is_by_trial wish ≡ true) }
+{
     if wants_option(alloc, tokens, at)? {
         return Ok(Expected::OptionSign);
     }

@@ -1,5 +1,10 @@
 //! Brackets that are not closed, or closed by another one, at the token that no rule reads.
 
+ghost use Rattle.std.specs.Prelude.{◌≡◌, ◌<◌, length, false, IfOk};
+ghost use Rattle.explain_cause.specs.Places.{closes as ends, kind_at as kind};
+ghost use Rattle.explain_syntax.specs.Beside as beside;
+ghost use Rattle.explain_syntax.specs.Trials as trials;
+
 use crate::stopped::opener_before;
 use explain_cause::brackets::{fits, innermost, open_before};
 use explain_cause::place::{closes, kind_at};
@@ -20,7 +25,9 @@ pub enum Brackets {
 }
 
 /// Whether a token of this kind closes what one of that kind opens, or may be meant for it: `fi` and `od` for `if` and `do`, `)` and `]` for `(` and `[`.
-fn is_for(kind: Kind, opener: Kind) -> bool {
+fn is_for(kind: Kind, opener: Kind) -> bool
+    ensures { result ≡ beside.is_meant_for kind opener }
+{
     match kind {
         Kind::CloseParen | Kind::CloseBracket => {
             matches!(opener, Kind::OpenParen | Kind::OpenBracket)
@@ -31,7 +38,9 @@ fn is_for(kind: Kind, opener: Kind) -> bool {
 }
 
 /// Whether a token closes something, and none of these is meant.
-fn is_one_too_many(tokens: &[Token<'_>], open: &[usize], at: usize) -> bool {
+fn is_one_too_many(tokens: &[Token<'_>], open: &[usize], at: usize) -> bool
+    ensures { result ≡ beside.is_one_too_many tokens.now open.now at }
+{
     for opener in open {
         if is_for(kind_at(tokens, at), kind_at(tokens, *opener)) {
             return false;
@@ -41,7 +50,9 @@ fn is_one_too_many(tokens: &[Token<'_>], open: &[usize], at: usize) -> bool {
 }
 
 /// Of a token that closes the last of these, or else nothing.
-fn closed_by(tokens: &[Token<'_>], open: &[usize], at: usize) -> Brackets {
+fn closed_by(tokens: &[Token<'_>], open: &[usize], at: usize) -> Brackets
+    ensures { result ≡ trials.closed_by tokens.now open.now at }
+{
     if is_one_too_many(tokens, open, at) {
         return Brackets::Nothing;
     }
@@ -58,7 +69,9 @@ fn closed_by(tokens: &[Token<'_>], open: &[usize], at: usize) -> Brackets {
 }
 
 /// What is open at the end of the text, where its last token is the one at `at`.
-fn at_end(alloc: Global, tokens: &[Token<'_>], at: usize) -> Result<Brackets, AllocError> {
+fn at_end(alloc: Global, tokens: &[Token<'_>], at: usize) -> Result<Brackets, AllocError>
+    ensures { IfOk result (λ told. beside.next at < length tokens.now → told ≡ Brackets.Right) }
+{
     if at.saturating_add(1) < tokens.len() {
         return Ok(Brackets::Right);
     }
@@ -69,7 +82,9 @@ fn at_end(alloc: Global, tokens: &[Token<'_>], at: usize) -> Result<Brackets, Al
 }
 
 /// What closes, where something else is open.
-fn at_closer(alloc: Global, tokens: &[Token<'_>], at: usize) -> Result<Brackets, AllocError> {
+fn at_closer(alloc: Global, tokens: &[Token<'_>], at: usize) -> Result<Brackets, AllocError>
+    ensures { ends (kind tokens.now at) ≡ false → IfOk result (λ told. told ≡ Brackets.Right) }
+{
     if !closes(kind_at(tokens, at)) {
         return Ok(Brackets::Right);
     }

@@ -1,11 +1,14 @@
 //! What a token that no rule reads is meant for, by what is open there.
 
-ghost use Rattle.std.specs.Prelude.{◌≡◌, true, ◌≤◌, IfSome};
+ghost use Rattle.std.specs.Prelude.{◌≡◌, true, ◌≤◌, ◌&&◌, ◌||◌, IfSome};
+ghost use Rattle.explain_cause.specs.Places.{is_among as among};
 ghost use Rattle.explain_syntax.specs.Wanted as sorts;
 ghost use Rattle.explain_syntax.specs.Beside as beside;
 
 use crate::declared::{behind_parameter, is_half_range};
-use crate::kinds::{CHANNEL_QUESTIONS, OPTION_ENDS, OPTIONS, PARTS_OF_PARENS, UNITS, is_type};
+use crate::kinds::{
+    CHANNEL_QUESTIONS, OPTION_ENDS, OPTIONS, PARTS_OF_PARENS, TYPES, UNITS, is_type,
+};
 use crate::stopped::{are_before, begin_of, is_before, is_open, kind_before, kind_behind};
 use explain_cause::brackets::{closing, fits};
 use explain_cause::foreign::Foreign;
@@ -13,13 +16,17 @@ use explain_cause::place::{between, is_among, is_at, kind_at};
 use pml_token::token::{Kind, Token, same_kind};
 
 /// Whether a token stands where a declaration has its name: behind a type, `proctype` or `typedef`.
-pub fn is_named_there(tokens: &[Token<'_>], at: usize) -> bool {
+pub fn is_named_there(tokens: &[Token<'_>], at: usize) -> bool
+    ensures { result ≡ (among (beside.kind_before tokens.now at 1) TYPES || beside.is_naming (beside.kind_before tokens.now at 1)) }
+{
     let before = kind_before(tokens, at, 1);
     is_type(before) || matches!(before, Kind::Proctype | Kind::Typedef)
 }
 
 /// Whether a word stands where a name is declared: between a type and what goes on with the declaration or ends it.
-pub fn is_declared_word(tokens: &[Token<'_>], at: usize) -> bool {
+pub fn is_declared_word(tokens: &[Token<'_>], at: usize) -> bool
+    ensures { result ≡ (among (beside.kind_before tokens.now at 1) TYPES && beside.is_behind_name (beside.kind_behind tokens.now at)) }
+{
     is_type(kind_before(tokens, at, 1))
         && matches!(
             kind_behind(tokens, at),
@@ -65,7 +72,9 @@ pub fn arrow_between(tokens: &[Token<'_>], opener: usize, at: usize) -> Option<u
 }
 
 /// Whether a token ends what stands in parentheses or in brackets.
-fn ends_inside(tokens: &[Token<'_>], opener: usize, kind: Kind) -> bool {
+fn ends_inside(tokens: &[Token<'_>], opener: usize, kind: Kind) -> bool
+    ensures { result ≡ beside.ends_inside tokens.now opener kind }
+{
     match kind {
         Kind::Semicolon | Kind::DoubleColon => true,
         Kind::Assign | Kind::Arrow => is_at(tokens, opener, Kind::OpenBracket),
@@ -99,7 +108,9 @@ fn is_of_option(tokens: &[Token<'_>], opener: usize) -> bool {
 }
 
 /// Whether the parameters of a proctype are open, and a name without a type stands directly before a token.
-fn is_untyped(tokens: &[Token<'_>], opener: usize, at: usize) -> bool {
+fn is_untyped(tokens: &[Token<'_>], opener: usize, at: usize) -> bool
+    ensures { result ≡ beside.is_untyped tokens.now opener at }
+{
     is_before(tokens, opener, 2, Kind::Proctype)
         && is_before(tokens, at, 1, Kind::Name)
         && matches!(
@@ -172,14 +183,19 @@ fn within_parens(tokens: &[Token<'_>], opener: usize, at: usize, kind: Kind) -> 
     if is_half_range(tokens, opener, at) {
         return Some(Foreign::LoopRange);
     }
-    let own = in_parens(kind_before(tokens, opener, 1), kind);
-    if let Some(form) = own.or(behind_parameter(tokens, opener, at, kind)) {
+    if let Some(form) = in_parens(kind_before(tokens, opener, 1), kind) {
+        return Some(form);
+    }
+    if let Some(form) = behind_parameter(tokens, opener, at, kind) {
         return Some(form);
     }
     if is_untyped(tokens, opener, at) {
         return Some(untyped(tokens, at));
     }
-    if let Some(form) = argument(tokens, opener, kind).or(asked(tokens, opener, at)) {
+    if let Some(form) = argument(tokens, opener, kind) {
+        return Some(form);
+    }
+    if let Some(form) = asked(tokens, opener, at) {
         return Some(form);
     }
     if same_kind(kind, Kind::Of) && is_before(tokens, opener, 2, Kind::Proctype) {

@@ -1,8 +1,9 @@
 //! Words of other languages, and names that are near to words of this one, beside the token that no rule reads.
 
-ghost use Rattle.std.specs.Prelude.{◌≡◌, true, OnOk, IfSome};
+ghost use Rattle.std.specs.Prelude.{◌≡◌, ◌-◌, true, None, IfOk, IfSome};
 ghost use Rattle.explain_syntax.specs.Wanted as sorts;
 ghost use Rattle.explain_syntax.specs.Beside as beside;
+ghost use Rattle.explain_syntax.specs.Trials as trials;
 
 use crate::called::name_behind;
 use crate::declared::meant_at;
@@ -40,7 +41,9 @@ struct Spoken<'t> {
 }
 
 /// The token at `at`, where it is a name that nothing declares in front of it and a word of another language.
-fn word_at<'t>(text: &'t [u8], tokens: &[Token<'_>], at: usize) -> Option<Spoken<'t>> {
+fn word_at<'t>(text: &'t [u8], tokens: &[Token<'_>], at: usize) -> Option<Spoken<'t>>
+    ensures { IfSome result (λ word. word.name.offset ≡ beside.offset_at text.now tokens.now at) }
+{
     if !is_at(tokens, at, Kind::Name) {
         return None;
     }
@@ -70,12 +73,17 @@ fn word_before<'t>(
     tokens: &[Token<'_>],
     at: usize,
     count: usize,
-) -> Option<Spoken<'t>> {
+) -> Option<Spoken<'t>>
+    ensures { IfSome result (λ word. word.name.offset ≡ beside.offset_at text.now tokens.now (at - count)) }
+{
     word_at(text, tokens, at.checked_sub(count)?)
 }
 
 /// Of two words side by side the first, but for one in front of `main`.
-fn first_of<'t>(first: Option<Spoken<'t>>, second: Option<Spoken<'t>>) -> Option<Spoken<'t>> {
+fn first_of<'t>(first: Option<Spoken<'t>>, second: Option<Spoken<'t>>) -> Option<Spoken<'t>>
+    ensures second { first.entry ≡ None → result ≡ second.entry }
+    ensures first { second.entry ≡ None → result ≡ first.entry }
+{
     match (first, second) {
         (Some(_), Some(word)) if matches!(word.foreign, Foreign::Main) => second,
         (Some(_), _) => first,
@@ -139,11 +147,7 @@ pub fn foreign_beside<'t>(text: &'t [u8], tokens: &[Token<'_>], at: usize) -> Op
 }
 
 /// A word of another language with `!` in front of the `(` that is open.
-pub fn foreign_call<'t>(
-    text: &'t [u8],
-    tokens: &[Token<'_>],
-    opener: usize,
-) -> Option<Expected<'t>>
+pub fn foreign_call<'t>(text: &'t [u8], tokens: &[Token<'_>], opener: usize) -> Option<Expected<'t>>
     ensures { IfSome result (λ wish. sorts.is_foreign wish ≡ true) }
 {
     if !is_at(tokens, opener, Kind::OpenParen) || !is_before(tokens, opener, 1, Kind::Bang) {
@@ -154,7 +158,9 @@ pub fn foreign_call<'t>(
 }
 
 /// The number and the name that stand side by side without a blank, the name at `at`.
-fn joined_at<'t>(text: &'t [u8], tokens: &[Token<'_>], at: usize) -> Option<Named<'t>> {
+fn joined_at<'t>(text: &'t [u8], tokens: &[Token<'_>], at: usize) -> Option<Named<'t>>
+    ensures { IfSome result (λ name. name.offset ≡ beside.offset_at text.now tokens.now (at - 1)) }
+{
     let number = name_at(text, tokens, at.checked_sub(1)?);
     let name = name_at(text, tokens, at);
     let length = number.name.len().saturating_add(name.name.len());
@@ -171,7 +177,9 @@ fn joined_at<'t>(text: &'t [u8], tokens: &[Token<'_>], at: usize) -> Option<Name
 }
 
 /// What a number with letters behind it is meant for, where a token of this kind stands behind these: a label, or a number.
-fn joined_form(behind: Kind) -> Foreign {
+fn joined_form(behind: Kind) -> Foreign
+    ensures { result ≡ trials.joined_form behind }
+{
     match behind {
         Kind::Colon => Foreign::NameBegins,
         _ => Foreign::Digits,
@@ -257,11 +265,7 @@ pub fn no_word<'t>(text: &'t [u8], tokens: &[Token<'_>], at: usize) -> Option<Ex
 }
 
 /// A variable that is called as a function, in front of the `(` at `at`.
-pub fn called_variable<'t>(
-    text: &'t [u8],
-    tokens: &[Token<'_>],
-    at: usize,
-) -> Option<Expected<'t>>
+pub fn called_variable<'t>(text: &'t [u8], tokens: &[Token<'_>], at: usize) -> Option<Expected<'t>>
     ensures { IfSome result (λ wish. sorts.is_index wish ≡ true) }
 {
     let place = at.checked_sub(1)?;
@@ -274,11 +278,7 @@ pub fn called_variable<'t>(
 }
 
 /// What a name in front of `(` or `{` is: the name of a proctype, or of one that is being declared.
-pub fn proctype_beside<'t>(
-    text: &'t [u8],
-    tokens: &[Token<'_>],
-    at: usize,
-) -> Option<Expected<'t>>
+pub fn proctype_beside<'t>(text: &'t [u8], tokens: &[Token<'_>], at: usize) -> Option<Expected<'t>>
     ensures { IfSome result (λ wish. sorts.is_proctype wish ≡ true) }
 {
     if !is_before(tokens, at, 1, Kind::Name) {
@@ -304,7 +304,7 @@ pub fn near_at<'t>(
     tokens: &[Token<'_>],
     at: usize,
 ) -> Result<Option<Expected<'t>>, AllocError>
-    ensures { OnOk result (λ found. IfSome found (λ wish. sorts.is_word wish ≡ true)) }
+    ensures { IfOk result (λ found. IfSome found (λ wish. sorts.is_word wish ≡ true)) }
 {
     if !matches!(kind_at(tokens, at), Kind::Name) {
         return Ok(None);
@@ -343,7 +343,7 @@ fn near_before<'t>(
     tokens: &[Token<'_>],
     at: usize,
 ) -> Result<Option<Expected<'t>>, AllocError>
-    ensures { OnOk result (λ found. IfSome found (λ wish. sorts.is_word wish ≡ true)) }
+    ensures { IfOk result (λ found. IfSome found (λ wish. sorts.is_word wish ≡ true)) }
 {
     let Some(before) = at.checked_sub(1) else {
         return Ok(None);
@@ -363,7 +363,7 @@ pub fn near_beside<'t>(
     tokens: &[Token<'_>],
     at: usize,
 ) -> Result<Option<Expected<'t>>, AllocError>
-    ensures { OnOk result (λ found. IfSome found (λ wish. sorts.is_word wish ≡ true)) }
+    ensures { IfOk result (λ found. IfSome found (λ wish. sorts.is_word wish ≡ true)) }
 {
     match near_at(alloc, text, tokens, at)? {
         Some(wanted) => Ok(Some(wanted)),

@@ -6,7 +6,7 @@ use Rattle.promela_model.specs.Marks.{of_tree}
 use Rattle.pml_program.specs.declared.program.Program.{Program}
 use Rattle.check_resolve.specs.Model.{numbered_model}
 use Rattle.promela_model.specs.StandsModel.{StandsModel}
-use Rattle.check_meaning.proofs.Model.{model-stands, one-model}
+use Rattle.meaning_laws.proofs.Model.{model-stands, one-model}
 use Rattle.promela_refusals.specs.Judged.{AppliesTo, Applies}
 use Rattle.pml_check.specs.Fitted.{FitsTo, Fits}
 use Rattle.pml_check.proofs.Exclusive.{apart}

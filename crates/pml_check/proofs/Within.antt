@@ -29,8 +29,8 @@ use Rattle.pml_program.specs.declared.program.Program.{Program}
 use Rattle.check_resolve.specs.Declarations.{natural}
 use Rattle.check_resolve.specs.Model.{numbered_model}
 use Rattle.promela_model.specs.Stands.{cells_in_all}
-use Rattle.check_meaning.proofs.Limits.{Few, AllFew, all-few, room, Rooms}
-use Rattle.check_meaning.proofs.Limited.{IsLimited, model-limited}
+use Rattle.meaning_laws.proofs.Limits.{Few, AllFew, all-few, room, Rooms}
+use Rattle.meaning_laws.proofs.Limited.{IsLimited, model-limited}
 use Rattle.run_start.specs.Bound.{cells_of, largest, room_by, room_of, room_of_fields, room_of_processes, IsWithin}
 use Rattle.pml_check.specs.Fitted.{FitsTo}
 use Rattle.pml_check.specs.Decided.{all_judged, FitsAll}

@@ -24,7 +24,7 @@ use Rattle.promela_grammar.specs.Models.{Spells}
 use Rattle.pml_syntax.specs.ReadingUnits as reading
 use Rattle.pml_syntax.proofs.Whole.{is_found, is_none}
 use Rattle.check_resolve.specs.Model.{numbered_model}
-use Rattle.check_meaning.proofs.Model.{model-stands}
+use Rattle.meaning_laws.proofs.Model.{model-stands}
 use Rattle.promela_refusals.specs.Judged.{IsFit, IsLeast}
 use Rattle.pml_check.specs.Fitted.{FitsTo, HasGoodStart}
 use Rattle.pml_check.proofs.Standing.{fitted}

@@ -18,7 +18,7 @@ use Rattle.promela_grammar.specs.Models.{Spells}
 use Rattle.pml_syntax.proofs.Whole as trees
 use Rattle.pml_program.specs.declared.program.Program.{Program}
 use Rattle.promela_model.specs.StandsModel.{StandsModel}
-use Rattle.check_meaning.proofs.Model.{one-model}
+use Rattle.meaning_laws.proofs.Model.{one-model}
 use Rattle.promela_model.specs.declared.mark.Mark.{Mark}
 use Rattle.promela_refusals.specs.Judged.{AppliesTo, IsFit, IsLeast}
 use Rattle.pml_check.proofs.Least.{one_least, fit_has_none}

@@ -1,5 +1,5 @@
 -- The lines that stand for the macros of a command line.
-use Rattle.std.specs.Prelude.{ℕ, ◌==◌, Bool, true, false, not, ◌&&◌, ◌||◌, nat_le, if◌then◌else◌, List, [], ◌∷◌, ◌++◌, codes, take_while, drop, length}
+use Rattle.std.specs.Prelude.{ℕ, ◌==◌, Bool, true, false, ◌&&◌, ◌||◌, nat_le, if◌then◌else◌, List, [], ◌∷◌}
 use Rattle.std.specs.Char.{is_ascii_alphanumeric}
 
 -- a byte of a macro's name

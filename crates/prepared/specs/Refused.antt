@@ -1,5 +1,5 @@
 -- What is answered for a text that the preprocessor refuses.
-use Rattle.std.specs.Prelude.{ℕ, ◌-◌, List, Bool, true, false, ⊤, Option, None, Some}
+use Rattle.std.specs.Prelude.{ℕ, ◌-◌, List, Bool, true, false, Option, None, Some}
 use Rattle.pml_macros.specs.declared.atom.Atom.{Atom}
 use Rattle.pml_macros.specs.declared.atom.FilePlace.{FilePlace}
 use Rattle.source_lines.specs.Places.{start_at, line_at}
@@ -8,8 +8,6 @@ use Rattle.pml_macros.specs.declared.trouble.Trouble.{Trouble}
 use Rattle.pml_macros.specs.declared.trouble.Trouble.TheVariants as trouble
 use Rattle.pml_directives.specs.declared.refusal.Why.{Why}
 use Rattle.pml_directives.specs.declared.refusal.Why.TheVariants as why
-use Rattle.prepared.specs.declared.unprepared.Unprepared.{Unprepared}
-use Rattle.prepared.specs.declared.unprepared.Unprepared.TheVariants as as_unprepared
 
 -- the token of a call that is wrong
 abbrev pub token_of : Trouble → Option Atom

@@ -85,7 +85,10 @@ pub fn add_line(
     valued: MacroOption<'_>,
 ) -> Result<(), Unprepared> {
     let value = valued.value;
-    if !has_name(value.as_bytes()) || (valued.letter == 'U' && value.contains('=')) || value.contains('\n') {
+    if !has_name(value.as_bytes())
+        || (valued.letter == 'U' && value.contains('='))
+        || value.contains('\n')
+    {
         let word = format!(in alloc;
             "-{} wants the name of a macro, and '{value}' has none",
             valued.letter

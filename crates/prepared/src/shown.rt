@@ -21,9 +21,7 @@ fn printable(b: u8) -> char
 }
 
 /// The beginning of a token, as far as it can be shown.
-pub fn shown(alloc: Global, token: &[u8]) -> Result<String, AllocError>
-    ensures { IfOk result (λ s. string_bytes s ≡ as_shown.shown token.now) }
-{
+pub fn shown(alloc: Global, token: &[u8]) -> Result<String, AllocError> {
     let mut text = String::new(alloc);
     for b in token.iter().take(MOST_SHOWN) {
         if *b == b'\n' {

@@ -193,6 +193,9 @@ module _ {a b : Holdings} {n : ℕ} where
 pub told_same : {a b : Holdings} (text piece : List ℕ) → text ≡ piece → Moved a b [] text [] → Moved a b [] piece []
 told_same {a} {b} text piece is m = subst (λ (bs : List ℕ). Moved a b [] bs []) is m
 
+pub gathered_same : (xs : List (List ℕ)) (bytes begins bytes' begins' : List ℕ) → bytes' ≡ bytes → begins' ≡ begins → AreGathered xs bytes begins → AreGathered xs bytes' begins'
+gathered_same xs bytes begins bytes' begins' same_bytes same_begins are = record { bytes_are = same_bytes ∙ are.bytes_are; begins_are = same_begins ∙ are.begins_are }
+
 -- ---- what waits
 
 module _ {a : Holdings} {n : ℕ} where

@@ -1,13 +1,15 @@
 -- The texts of steps that are done and still to be written.
-use Rattle.std.specs.Prelude.{◌≡◌, ◌⊎◌, ℕ, ◌+◌, ◌-◌, ◌<◌, Bool, false, ◌||◌, List, [], ◌∷◌, ◌++◌, length, take, nat_le, nat_lt, Option, Some, None, Result, MatchResult}
+use Rattle.std.specs.Prelude.{◌≡◌, ◌⊎◌, ℕ, ◌+◌, ◌-◌, ◌<◌, Bool, false, ◌||◌, List, [], ◌∷◌, ◌++◌, length, take, drop, nat_le, nat_lt, Option, Some, None, Result, MatchResult}
 use Rattle.std.specs.List.{count_by}
 use Rattle.devices.specs.Holdings.{Holdings, Moved}
 use Rattle.promela_session.specs.declared.ends.End.{End}
 use Rattle.promela_session.specs.declared.ends.Broken.{Broken}
 use Rattle.promela_session.specs.declared.ends.Broken.TheVariants as broken
-use Rattle.promela_session.specs.Events.{Event, Put, Told, Stepped, output, Part, preceded}
-use Rattle.promela_machine.specs.Machine.{Rules}
-use Rattle.promela_session.specs.Session.{stepped}
+use Rattle.diagnostics.specs.declared.fault.Fault.{Fault}
+use Rattle.promela_session.specs.declared.ends.Options.{Options}
+use Rattle.promela_session.specs.Events.{Event, Put, Told, Stepped, output, Part, preceded, fault_line}
+use Rattle.promela_machine.specs.Machine.{Rules, Goes, Faults}
+use Rattle.promela_session.specs.Session.{stepped, step_text}
 use Rattle.promela_session.specs.Devices.{Does, Breaks}
 use Rattle.session.specs.Writes.{Leads, story_after}
 use Rattle.session.specs.declared.course.Terms.{Terms}
@@ -42,6 +44,17 @@ abbrev pub AddsText : (bytes begins text bytes' begins' : List ℕ) → Type 0
 AddsText bytes begins text bytes' begins' =
     ((bytes' ≡ bytes ++ text) × (begins' ≡ begins ++ length bytes ∷ []))
     ⊎ ((text ≡ []) × (begins ≡ []) × (bytes' ≡ bytes) × (begins' ≡ []))
+
+-- what stands behind the first bytes is the text that is added
+abbrev pub EndsText : ℕ → (bytes begins bytes' begins' : List ℕ) → Type 0
+EndsText n bytes begins bytes' begins' = AddsText (take n bytes) begins (drop n bytes) bytes' begins'
+
+-- a step is taken and its text added, or the line of its fault is composed and no text is added
+abbrev pub Gathers : {S M : Type 0} → Rules S M → Options → S → M → ℕ → S → (course course' : Course) → Option Fault → Type 0
+Gathers rules options s m steps t course course' None = (printed : List ℕ) × (rules.step s m ≡ Goes t printed)
+    × AddsText course.gathered.bytes.items course.gathered.begins.items (step_text rules options s m (steps + 1) t printed) course'.gathered.bytes.items course'.gathered.begins.items
+Gathers rules options s m steps t course course' (Some f) = (rules.step s m ≡ Faults f) × (course'.draft.piece.items ≡ fault_line f (steps + 1) (rules.text s m))
+    × (course'.gathered.bytes.items ≡ course.gathered.bytes.items) × (course'.gathered.begins.items ≡ course.gathered.begins.items)
 
 -- the first of the bytes were written, and the steps that begin behind them are not counted
 abbrev pub CutsTexts : Holdings → Holdings → (bytes begins : List ℕ) → ℕ → ℕ → Type 0

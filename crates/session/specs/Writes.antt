@@ -72,6 +72,10 @@ RecordsAnswer r before after line = MatchResult r (λ _. Moved before after [] [
 
 -- ---- steps
 
+-- the step is taken, and its text is appended
+abbrev pub AddsStep : {S M : Type 0} → Rules S M → Options → S → M → ℕ → S → (before after : List ℕ) → Type 0
+AddsStep rules options s m n t before after = (printed : List ℕ) × (rules.step s m ≡ Goes t printed) × (after ≡ before ++ step_text rules options s m n t printed)
+
 -- this is the text of a step that succeeds, or the line of its fault
 abbrev pub Composes : {S M : Type 0} → Rules S M → Options → S → M → ℕ → S → List ℕ → Option Fault → Type 0
 Composes rules options s m steps t text None = (printed : List ℕ) × (rules.step s m ≡ Goes t printed) × (text ≡ step_text rules options s m (steps + 1) t printed)

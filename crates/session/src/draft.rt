@@ -1,10 +1,12 @@
 //! The texts of a session, composed in buffers that are kept.
-ghost use Rattle.std.specs.Prelude.{◌≡◌, ◌+◌, ◌++◌, ◌<◌, ◌≤◌, ◌^◌, [], ◌∷◌, drop, length, IfOk, OnOk, if◌then◌else◌, codes};
+ghost use Rattle.std.specs.Prelude.{◌≡◌, ◌+◌, ◌++◌, ◌<◌, ◌≤◌, ◌^◌, [], ◌∷◌, drop, length, IfOk, OnOk, OnErr, codes};
+ghost use Rattle.std.specs.Io.{StartsWith};
 ghost use Rattle.std.specs.Fmt.{decimal};
 ghost use Rattle.profile.specs.declared.TheConstants.{LINE_BYTES};
 ghost use Rattle.session.specs.Takes.{CanBeShown};
 ghost use Rattle.promela_session.specs.Events.{list_from, prompt, record_line, placed_line, last_words, last_line, step_line, fault_line, refusal_line};
 
+use crate::step_numbers::StepNumbers;
 use crate::{Cause, Machine};
 use diagnostics::{Fault, Refusal};
 use itoa::write_digits;
@@ -17,6 +19,8 @@ pub struct Draft {
     pub piece: Vec<u8>,
     /// Where in it the prompt of the question that is asked begins.
     pub prompt: usize,
+    /// How lines of steps begin.
+    pub numbers: StepNumbers,
 }
 
 impl Draft {
@@ -25,6 +29,7 @@ impl Draft {
         Draft {
             piece: Vec::new(alloc),
             prompt: 0,
+            numbers: StepNumbers::new(),
         }
     }
 }
@@ -72,7 +77,8 @@ fn add_number(
 // Appends a line feed.
 #[inline(always)]
 fn add_line_feed(piece: &mut Vec<u8>) -> Result<(), AllocError>
-    ensures { OnOk result (piece.new.items ≡ piece.old.items ++ codes "\n") }
+    ensures added { OnOk result (piece.new.items ≡ piece.old.items ++ codes "\n") }
+    ensures kept { OnErr result (piece.new.items ≡ piece.old.items) }
 {
     piece.reserve(1)?;
     piece.push_reserved(b'\n');
@@ -136,7 +142,8 @@ fn add_choice(piece: &mut Vec<u8>, n: u64) -> Result<(), AllocError>
 #[inline(always)]
 fn add_text<M: Machine>(machine: &M, m: &M::Move, piece: &mut Vec<u8>) -> Result<(), AllocError>
     requires { CanBeShown M.rules machine.now m.now }
-    ensures { OnOk result (piece.new.items ≡ piece.old.items ++ (M.rules.text machine.now m.now ++ codes "\n")) }
+    ensures added { OnOk result (piece.new.items ≡ piece.old.items ++ (M.rules.text machine.now m.now ++ codes "\n")) }
+    ensures kept { OnErr result (StartsWith piece.new.items piece.old.items) }
 {
     machine.show(m, piece)?;
     add_line_feed(piece)
@@ -259,37 +266,21 @@ pub fn draft_last(cause: Cause, steps: u32, piece: &mut Vec<u8>) -> Result<(), A
     add_counted(piece, b"", u64::from(steps))
 }
 
-// Appends the line of a step.
-#[inline(never)]
-fn add_step<M: Machine>(
-    machine: &M,
-    m: &M::Move,
-    n: u64,
-    piece: &mut Vec<u8>,
-) -> Result<(), AllocError>
-    requires present { CanBeShown M.rules machine.now m.now }
-    ensures { OnOk result (piece.new.items ≡ piece.old.items ++ step_line n (M.rules.text machine.now m.now)) }
-{
-    add_move(machine, m, b"step ", n, piece)
-}
-
-/// Begins the text of a step: its line, or nothing.
+/// Appends the line of a step.
 #[inline(always)]
-pub fn draft_step<M: Machine>(
+pub fn add_step<M: Machine>(
     machine: &M,
     m: &M::Move,
-    wanted: bool,
     n: u64,
-    draft: &mut Draft,
+    numbers: &mut StepNumbers,
+    text: &mut Vec<u8>,
 ) -> Result<(), AllocError>
     requires present { CanBeShown M.rules machine.now m.now }
-    ensures { OnOk result (draft.new.piece.items ≡ (if wanted then step_line n (M.rules.text machine.now m.now) else [])) }
+    ensures added { OnOk result (text.new.items ≡ text.old.items ++ step_line n (M.rules.text machine.now m.now)) }
+    ensures kept { OnErr result (StartsWith text.new.items text.old.items) }
 {
-    draft.piece.clear();
-    if wanted {
-        add_step(machine, m, n, &mut draft.piece)?;
-    }
-    Ok(())
+    numbers.add(n, text)?;
+    add_text(machine, m, text)
 }
 
 /// Composes the line of a fault.

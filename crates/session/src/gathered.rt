@@ -1,7 +1,7 @@
 //! The texts of steps that are done and still to be written.
-ghost use Rattle.std.specs.Prelude.{◌≡◌, ◌-◌, ◌++◌, ◌∷◌, [], length, IfErr, OnOk, OnErr};
+ghost use Rattle.std.specs.Prelude.{◌≡◌, ◌-◌, ◌≤◌, [], length, take, IfErr, OnOk, OnErr};
 ghost use Rattle.promela_session.specs.declared.ends.Broken.TheVariants.{Out};
-ghost use Rattle.session.specs.Gathered.{are_enough, later, AddsText, CutsTexts};
+ghost use Rattle.session.specs.Gathered.{are_enough, later, EndsText, CutsTexts};
 ghost use Rattle.session.specs.Writes.{CountsAll};
 ghost use Rattle.devices.specs.Holdings.{Moved};
 
@@ -47,20 +47,20 @@ impl Gathered {
         }
     }
 
-    /// Adds the text of a step; an empty one behind none is written already. Want of memory changes nothing.
+    /// Counts what was added behind the first bytes as the text of a step; an empty one behind none is written already. Want of memory
+    /// takes it back.
     #[inline(always)]
-    pub fn add(&mut self, text: &[u8]) -> Result<(), AllocError>
-        ensures ok { OnOk result (AddsText self.old.bytes.items self.old.begins.items text.now self.new.bytes.items self.new.begins.items) }
-        ensures err_bytes { OnErr result (self.new.bytes.items ≡ self.old.bytes.items) }
+    pub fn end_text(&mut self, begin: usize) -> Result<(), AllocError>
+        requires { begin ≤ length self.old.bytes.items }
+        ensures ok { OnOk result (EndsText begin self.old.bytes.items self.old.begins.items self.new.bytes.items self.new.begins.items) }
+        ensures err_bytes { OnErr result (self.new.bytes.items ≡ take begin self.old.bytes.items) }
         ensures err_begins { OnErr result (self.new.begins.items ≡ self.old.begins.items) }
     {
-        if text.is_empty() && self.begins.is_empty() {
+        if self.bytes.len() == begin && self.begins.is_empty() {
             return Ok(());
         }
-        let begin = self.bytes.len();
-        self.begins.push(begin)?;
-        if self.bytes.extend_from_slice(text).is_err() {
-            self.begins.pop();
+        if self.begins.push(begin).is_err() {
+            self.bytes.truncate(begin);
             return Err(AllocError);
         }
         Ok(())

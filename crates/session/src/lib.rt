@@ -11,6 +11,7 @@ mod line;
 mod machine;
 pub mod question;
 mod refused;
+mod step_numbers;
 mod whole;
 mod writing;
 

@@ -14,7 +14,7 @@ ghost use Rattle.promela_session.specs.Devices.{Ends, IsBrokenOff, failure_of, C
 use crate::course::{Course, Terms};
 use crate::draft::Draft;
 use crate::question::{put_out, question};
-use crate::writing::{keep, step, take_step, write_ending, write_last, write_question};
+use crate::writing::{gather_step, keep, step, write_ending, write_last, write_question};
 use crate::{Answer, Broken, Cause, End, Machine, Options, Stream, Version};
 use devices::Devices;
 use std::alloc::Global;
@@ -225,14 +225,13 @@ fn advance<M: Machine, D: Devices>(
     ensures still { run.new.stream ≡ run.old.stream }
     ensures few { IfOk result (λ end. IfNone end (AreFew run.new)) }
 {
-    match take_step(machine, m, &terms.options, *steps, &mut run.draft)? {
+    match gather_step(machine, m, &terms.options, *steps, run)? {
         Some(f) => {
             run.gathered.write(steps, devices)?;
             put_out(devices, &run.draft.piece)?;
             Ok(Some(end_of(Cause::Fault(f), *steps)))
         }
         None => {
-            run.gathered.add(&run.draft.piece)?;
             *steps += 1;
             if run.gathered.is_enough() {
                 run.gathered.write(steps, devices)?;

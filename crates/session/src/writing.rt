@@ -1,19 +1,23 @@
 //! Functions that compose a piece and hand it over.
-ghost use Rattle.std.specs.Prelude.{◌≡◌, ◌+◌, ◌<◌, ◌≤◌, ◌^◌, ◌++◌, IfOk, IfErr, OnOk, length, drop};
+ghost use Rattle.std.specs.Prelude.{◌≡◌, ◌+◌, ◌<◌, ◌≤◌, ◌^◌, ◌++◌, IfOk, IfErr, OnOk, OnErr, length, drop};
+ghost use Rattle.std.specs.Io.{StartsWith};
 ghost use Rattle.std.specs.List.{Contains};
 ghost use Rattle.promela_session.specs.declared.ends.Broken.TheVariants.{Memory};
-ghost use Rattle.session.specs.Writes.{CountsAll, Writes, kept_text, RecordsAnswer, Composes, Steps};
+ghost use Rattle.session.specs.Takes.{StopsByFault};
+ghost use Rattle.session.specs.Writes.{CountsAll, Writes, kept_text, RecordsAnswer, AddsStep, Composes, Steps};
+ghost use Rattle.session.specs.Gathered.{Gathers};
 ghost use Rattle.profile.specs.declared.TheConstants.{LINE_BYTES};
 ghost use Rattle.session.specs.Answers.{IsPickUpTo};
 ghost use Rattle.promela_session.specs.Session.{place_of_move};
 ghost use Rattle.session.specs.Ending.{final_lines};
 ghost use Rattle.promela_session.specs.Events.{list_from, prompt, last_line, noted};
 
+use crate::course::Course;
 use crate::draft::{
-    Draft, draft_fault, draft_last, draft_list, draft_placed, draft_prompt, draft_record,
-    draft_step,
+    Draft, add_step, draft_fault, draft_last, draft_list, draft_placed, draft_prompt, draft_record,
 };
 use crate::question::put_out;
+use crate::step_numbers::StepNumbers;
 use crate::{Answer, Broken, Cause, Machine, Options, Report, Stop, Version};
 use devices::Devices;
 use diagnostics::Fault;
@@ -122,10 +126,37 @@ pub fn keep<M: Machine, D: Devices>(
     }
 }
 
+// Takes a step and appends its text. After a fault, or where memory is refused, the text has its old bytes, perhaps with more behind
+// them.
+#[inline(always)]
+fn add_taken<M: Machine>(
+    machine: &mut M,
+    m: &M::Move,
+    options: &Options,
+    n: u64,
+    numbers: &mut StepNumbers,
+    text: &mut Vec<u8>,
+) -> Result<(), Stop>
+    requires { Contains (M.rules.moves machine.old) m.now }
+    ensures taken { OnOk result (AddsStep M.rules options.now machine.old m.now n machine.new text.old.items text.new.items) }
+    ensures fault { IfErr result (StopsByFault M.rules machine.old m.now machine.new) }
+    ensures kept { OnErr result (StartsWith text.new.items text.old.items) }
+{
+    if options.steps && add_step(machine, m, n, numbers, text).is_err() {
+        return Err(Stop::Memory);
+    }
+    machine.take(m, text)?;
+    let shown = Report::Values(options.globals, options.locals);
+    match machine.report(shown, text) {
+        Ok(_) => Ok(()),
+        Err(_) => Err(Stop::Memory),
+    }
+}
+
 /// Takes a step and composes its text, or the line of its fault. Where steps are not shown, the move's text is composed for
 /// a fault alone.
 #[inline(always)]
-pub fn take_step<M: Machine>(
+fn take_step<M: Machine>(
     machine: &mut M,
     m: &M::Move,
     options: &Options,
@@ -137,18 +168,56 @@ pub fn take_step<M: Machine>(
     ensures broken { IfErr result (λ e. e ≡ Memory) }
 {
     let n = u64::from(steps) + 1;
-    draft_step(machine, m, options.steps, n, draft)?;
-    match machine.take(m, &mut draft.piece) {
-        Ok(()) => {
-            let shown = Report::Values(options.globals, options.locals);
-            machine.report(shown, &mut draft.piece)?;
-            Ok(None)
-        }
+    draft.piece.clear();
+    match add_taken(machine, m, options, n, &mut draft.numbers, &mut draft.piece) {
+        Ok(()) => Ok(None),
         Err(Stop::Fault(f)) => {
             draft_fault(machine, m, f, n, draft)?;
             Ok(Some(f))
         }
         Err(Stop::Memory) => Err(Broken::Memory),
+    }
+}
+
+/// Takes a step and gathers its text, or composes the line of its fault.
+#[inline(always)]
+pub fn gather_step<M: Machine>(
+    machine: &mut M,
+    m: &M::Move,
+    options: &Options,
+    steps: u32,
+    run: &mut Course,
+) -> Result<Option<Fault>, Broken>
+    requires { Contains (M.rules.moves machine.old) m.now }
+    ensures text { IfOk result (Gathers M.rules options.now machine.old m.now steps machine.new run.old run.new) }
+    ensures bytes { OnErr result (run.new.gathered.bytes.items ≡ run.old.gathered.bytes.items) }
+    ensures begins { OnErr result (run.new.gathered.begins.items ≡ run.old.gathered.begins.items) }
+    ensures broken { IfErr result (λ e. e ≡ Memory) }
+    ensures still { run.new.stream ≡ run.old.stream }
+{
+    let n = u64::from(steps) + 1;
+    let begin = run.gathered.bytes.len();
+    match add_taken(
+        machine,
+        m,
+        options,
+        n,
+        &mut run.draft.numbers,
+        &mut run.gathered.bytes,
+    ) {
+        Ok(()) => {
+            run.gathered.end_text(begin)?;
+            Ok(None)
+        }
+        Err(Stop::Fault(f)) => {
+            run.gathered.bytes.truncate(begin);
+            draft_fault(machine, m, f, n, &mut run.draft)?;
+            Ok(Some(f))
+        }
+        Err(Stop::Memory) => {
+            run.gathered.bytes.truncate(begin);
+            Err(Broken::Memory)
+        }
     }
 }
 

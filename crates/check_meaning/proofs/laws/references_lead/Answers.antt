@@ -1,5 +1,0 @@
-use Rattle.check_meaning.proofs.Going.{reference-leads}
-use Rattle.check_meaning.proofs.laws.references_lead.Goals as goal
-
-pub returns : goal.returns
-returns c = λ gs ls ts among r m h. reference-leads gs ts among h
