@@ -227,7 +227,7 @@ pub fn effect(
     text: &mut Vec<u8>,
 ) -> Result<(), Stop>
     requires there { process < length live.old.state.stands }
-    requires numbered { IsNumbered live.old.state process statement (option_copied basic.entry) }
+    requires numbered { IsNumbered live.old.state process statement (option_copied basic) }
     ensures value { Does (effect_of live.old.state process timeout (option_copied basic.entry)) result live.new.state text.old.items text.new.items }
     ensures grows { Grows result live.old live.new text.old.items text.new.items }
 {

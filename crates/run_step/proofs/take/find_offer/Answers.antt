@@ -6,4 +6,4 @@ returns-clause-numbered c =
     let s = c.args.live.now.state in
     let k = c.in_ok-offered.offered.body in
     let p = c.in_ok-offered.ensures.is in
-    rw c.basic.ensures (numbered s c.args.pick.process k c.in_ok-offered.offered.edge.now p.stands.is (has_body s c.args.pick.process p.seat k p.at p.stands))
+    rw c.basic-basic.ensures (numbered s c.args.pick.process k c.in_ok-offered.offered.edge.now p.stands.is (has_body s c.args.pick.process p.seat k p.at p.stands))
