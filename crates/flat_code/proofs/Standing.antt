@@ -11,15 +11,12 @@ use Rattle.pml_program.specs.declared.expr.Target.{Target, out-Target}
 use Rattle.pml_program.specs.declared.form.Form.{Form}
 use Rattle.pml_program.specs.declared.form.Form.TheVariants.{Plain as Kept}
 use Rattle.pml_tree.specs.declared.tree.Scalar.{Scalar}
-use Rattle.pml_program.specs.declared.program.Action.{Action}
 use Rattle.pml_program.specs.declared.program.Action.TheVariants.{Assign, Decrement, Holds, Increment}
 use Rattle.pml_program.specs.declared.program.Slot.{Slot}
 use Rattle.promela_process.specs.declared.place.Place.{Place}
 use Rattle.promela_process.specs.Store.{Frame, frame_at, number_at, size_at}
 use Rattle.promela_process.specs.Numbers.{clipped, decided, infixed, is_zero, truth_number, wrapped}
 use Rattle.promela_process.specs.Expressions.{Reading, Valued, Wanted, Placed, Turned, val, place, value_step, want_step, target_step, turn_step, ◌>>=◌}
-use Rattle.promela_run.specs.declared.live_channel.LiveChannel.{LiveChannel}
-use Rattle.promela_run.specs.Moves.{ready}
 use Rattle.promela_run.specs.declared.goes.Goes.{Goes}
 use Rattle.promela_run.specs.State.{size, reading_of}
 use Rattle.promela_run.specs.Statements.{goes_to, increased, outcome}
@@ -86,12 +83,12 @@ global_cell gs ls t cell i plain is below e frames cs process count timeout fits
 
 -- ---- what expressions are worth
 
-read-is : (t : Target) (r : Reading) → val (e.Read t) r ≡ (place t r >>= λ p. Ok (r.holds p))
+pub read-is : (t : Target) (r : Reading) → val (e.Read t) r ≡ (place t r >>= λ p. Ok (r.holds p))
 read-is t r =
     ap (λ (x : Expr). val x r) (sym (e.rolls-Read t))
     ∙ ap (λ (f : Valued). f r) (fold-roll-Expr Valued Wanted Placed Turned value_step want_step target_step turn_step (Expr-F.Read t))
 
-binary-is : (o : Infix) (a b : Expr) (r : Reading) → val (e.Binary o a b) r ≡ (val a r >>= λ x. unwrap_or (option_map Ok (decided o x)) (val b r >>= λ y. infixed o x y))
+pub binary-is : (o : Infix) (a b : Expr) (r : Reading) → val (e.Binary o a b) r ≡ (val a r >>= λ x. unwrap_or (option_map Ok (decided o x)) (val b r >>= λ y. infixed o x y))
 binary-is o a b r =
     ap (λ (x : Expr). val x r) (sym (e.rolls-Binary o a b))
     ∙ ap (λ (f : Valued). f r) (fold-roll-Expr Valued Wanted Placed Turned value_step want_step target_step turn_step (Expr-F.Binary o a b))

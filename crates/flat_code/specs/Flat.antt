@@ -25,7 +25,7 @@ use Rattle.flat_code.specs.declared.code.Operand.TheVariants as operand
 use Rattle.flat_code.specs.declared.code.FlatWorth.{FlatWorth}
 use Rattle.flat_code.specs.declared.code.FlatWorth.TheVariants.{Plain, Pair}
 use Rattle.flat_code.specs.declared.code.FlatCode.{FlatCode}
-use Rattle.flat_code.specs.declared.code.FlatCode.TheVariants.{No, Set, Ask}
+use Rattle.flat_code.specs.declared.code.FlatCode.TheVariants.{No, Set, Ask, Wide}
 
 -- ---- what it is worth, where all cells are these and those of the process begin here
 
@@ -128,11 +128,12 @@ pub record Asks (frames : List Frame) (base : ℕ) (r : Reading) (x : Action) (v
   pub does : outcome x r ≡ (worth (joined frames) base v >>= λ n. Ok None)
   pub asks : (lossy : Bool) (cs : List LiveChannel) (in_d_step : Bool) → ready lossy cs r in_d_step x ≡ (worth (joined frames) base v >>= λ n. Ok (not (is_zero n)))
 
--- the code of a statement without a structure
+-- the code of a statement without a structure; what names a wide code is none by itself
 abbrev pub IsCode : List Slot → List Slot → Action → FlatCode → Type 0
 IsCode gs ls x No = Unit {0}
 IsCode gs ls x (Set word c v) = Always gs ls (λ frames base r. Stores frames base r x word c v)
 IsCode gs ls x (Ask v) = Always gs ls (λ frames base r. Asks frames base r x v)
+IsCode gs ls x (Wide at) = ⊥
 
 -- a target keeps this word of a number, in this cell
 abbrev pub IsKept : List Slot → List Slot → Target → Scalar → FlatCell → Type 0

@@ -24,13 +24,14 @@ pub enum FlatWorth {
     Pair(Infix, Operand, Operand),
 }
 
-/// What a statement does: it stores what a type keeps of a number, or asks whether one is not 0. `No` says nothing of
-/// it.
+/// What a statement does: it stores what a type keeps of a number, or asks whether one is not 0, or does what a wide code
+/// of its table says. `No` says nothing of it.
 #[derive(Clone, Copy, Debug, PartialEq, Eq)]
 pub enum FlatCode {
     No,
     Set(Scalar, FlatCell, FlatWorth),
     Ask(FlatWorth),
+    Wide(u16),
 }
 
 // A model may have as many of them as a text of 1 MB has statements.

@@ -6,3 +6,6 @@ pub mod codes;
 pub mod make;
 pub mod owner;
 pub mod run;
+pub mod wide;
+pub mod wide_make;
+pub mod wide_run;

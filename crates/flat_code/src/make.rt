@@ -24,7 +24,7 @@ fn plain(target: &Target) -> Option<usize>
 }
 
 /// The cell of a target without an index.
-fn cell_of(
+pub(crate) fn cell_of(
     globals: &FlatOwner<'_, '_>,
     locals: &FlatOwner<'_, '_>,
     target: &Target,
@@ -81,7 +81,7 @@ fn operand(globals: &FlatOwner<'_, '_>, locals: &FlatOwner<'_, '_>, value: &Expr
 }
 
 /// An operand, or two with an operator between them.
-fn worth_of(
+pub(crate) fn worth_of(
     globals: &FlatOwner<'_, '_>,
     locals: &FlatOwner<'_, '_>,
     value: &Expr,

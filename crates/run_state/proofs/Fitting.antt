@@ -1,5 +1,5 @@
 -- What flat code finds in a state.
-use Rattle.std.proofs.Common.{◌≡◌, ℕ, zero, suc, ◌+◌, ◌<◌, Bool, true, not, List, [], ◌∷◌, map, length, get_or, refl, sym, ap, subst, ◌∙◌, arith, ℤ, Option, Some, None, Result, Ok, Err, OnOk, OnErr, IfSome, slice_get}
+use Rattle.std.proofs.Common.{◌≡◌, ℕ, zero, suc, ◌+◌, ◌<◌, Bool, true, not, List, [], ◌∷◌, map, length, get_or, sym, ap, subst, ◌∙◌, arith, ℤ, Option, Some, None, Result, Ok, Err, OnOk, OnErr, IfSome, slice_get}
 use Rattle.std.proofs.lemmas.List.{length-map}
 use Rattle.std.proofs.Math.ListN.{get_or-map}
 use Rattle.diagnostics.specs.declared.fault.Fault.{Fault}
@@ -11,12 +11,10 @@ use Rattle.pml_program.specs.declared.program.Basic.{Basic, Plain}
 use Rattle.pml_program.specs.declared.program.Slot.{Slot}
 use Rattle.pml_program.specs.declared.program.Action.{Action}
 use Rattle.pml_program.specs.declared.program.Program.{Program}
-use Rattle.promela_process.specs.declared.place.Place.{Place}
 use Rattle.promela_process.specs.Numbers.{clipped, is_zero}
 use Rattle.promela_process.specs.Store.{Frame}
 use Rattle.promela_process.specs.Expressions.{◌>>=◌}
 use Rattle.pml_store.specs.Writing.{Contents, joined, HasIndex, StoredAt}
-use Rattle.promela_run.specs.declared.goes.Goes.{Goes}
 use Rattle.promela_run.specs.declared.live_channel.LiveChannel.{LiveChannel}
 use Rattle.promela_run.specs.State.{Stand, State, size, variables_at, reads}
 use Rattle.promela_run.specs.Statements.{outcome}
@@ -34,7 +32,7 @@ use Rattle.flat_code.specs.Flat.{Always, AreIn, Asks, Fits, IsCodeOf, Stores, ba
 use Rattle.run_state.specs.declared.seat.Seat.{Seat}
 use Rattle.run_state.specs.Standing.{stand_of}
 use Rattle.run_state.specs.Held.{IsHeld, live_of, sorts_of}
-use Rattle.run_state.specs.Coded.{basic_in, statements_at, IsCodeIn, IsNumbered}
+use Rattle.run_state.specs.Coded.{basic_in, statements_at, IsCodeIn, IsFlatOf, IsNumbered}
 use Rattle.run_state.specs.Flatly.{FitsIn, PutsAt}
 use Rattle.run_state.specs.Live.{Leads}
 use Rattle.run_state.proofs.Finding.{there}
@@ -94,15 +92,15 @@ seat_sort p [] n x y h k = cc
 seat_sort p (z ∷ xs) zero x y h k = let e : z ≡ x = cc in let f : stand_of p z ≡ y = cc in ap (λ (s : Seat). s.sort) (sym e) ∙ ap (λ (s : Stand). s.sort) f
 seat_sort p (z ∷ xs) (suc n) x y h k = seat_sort p xs n x y h k
 
-code_there : (p : Program) (xs : List Seat) (process n : ℕ) (x : Seat) (code : FlatCode) → slice_get xs process ≡ Some x → IsCodeOf p.globals (variables_at p x.sort) (basic_in (statements_at p x.sort) n) code
-    → (y : Stand) → slice_get (map (stand_of p) xs) process ≡ Some y → IsCodeOf p.globals (variables_at p y.sort) (basic_in (statements_at p y.sort) n) code
-code_there p xs process n x code h c y k = subst (λ (s : ℕ). IsCodeOf p.globals (variables_at p s) (basic_in (statements_at p s) n) code) (seat_sort p xs process x y h k) c
+-- what is so of the proctype of a seat is so of that of its process
+pub by_seat : (p : Program) (xs : List Seat) (process : ℕ) (x : Seat) (P : ℕ → Type 0) → slice_get xs process ≡ Some x → P x.sort → (y : Stand) → slice_get (map (stand_of p) xs) process ≡ Some y → P y.sort
+by_seat p xs process x P h c y k = subst P (seat_sort p xs process x y h k) c
 
 pub codes_there : (p : Program) (xs : List Seat) (process n : ℕ) (x : Seat) (o : Option (Bor FlatCode)) → slice_get xs process ≡ Some x
-    → IfSome o (λ (code : Bor FlatCode). IsCodeOf p.globals (variables_at p x.sort) (basic_in (statements_at p x.sort) n) code.now)
-    → IfSome o (λ (code : Bor FlatCode). (y : Stand) → slice_get (map (stand_of p) xs) process ≡ Some y → IsCodeOf p.globals (variables_at p y.sort) (basic_in (statements_at p y.sort) n) code.now)
+    → IfSome o (λ (code : Bor FlatCode). IsFlatOf p.globals (variables_at p x.sort) (basic_in (statements_at p x.sort) n) code.now)
+    → IfSome o (λ (code : Bor FlatCode). (y : Stand) → slice_get (map (stand_of p) xs) process ≡ Some y → IsFlatOf p.globals (variables_at p y.sort) (basic_in (statements_at p y.sort) n) code.now)
 codes_there p xs process n x None h c = tt
-codes_there p xs process n x (Some code) h c = code_there p xs process n x code.now h c
+codes_there p xs process n x (Some code) h c = by_seat p xs process x (λ s. IsFlatOf p.globals (variables_at p s) (basic_in (statements_at p s) n) code.now) h c
 
 -- ---- what a code needs
 
@@ -139,8 +137,8 @@ module _ (s : State) (process n : ℕ) (code : FlatCode) (f : FitsIn s process) 
   abbrev base : ℕ
   base = base_of s.frames process
 
-  has : (k : FlatCode) → code ≡ k → IsCodeOf gs ls basic k
-  has k e = subst (IsCodeOf gs ls basic) e (is f.stand f.at)
+  has : (k : FlatCode) → code ≡ k → IsFlatOf gs ls basic k
+  has k e = subst (IsFlatOf gs ls basic) e (is f.stand f.at)
 
   pub set_there : (word : Scalar) (c : FlatCell) (v : FlatWorth) → code ≡ Set word c v → HasIndex s.frames (index base c)
   set_there word c v e = (set_needs gs ls basic word c v (has (Set word c v) e) s.frames s.channels process (length s.stands) true f.fits).0
@@ -153,8 +151,8 @@ module _ (s : State) (process n : ℕ) (code : FlatCode) (f : FitsIn s process) 
 
   -- of the statement with its number
   module _ (x : Action) (timeout : Bool) (numbered : IsNumbered s process n (Some (Plain x))) where
-    of : (k : FlatCode) → code ≡ k → IsCodeOf gs ls (Some (Plain x)) k
-    of k e = subst (λ (o : Option Basic). IsCodeOf gs ls o k) (numbered f.stand f.at) (has k e)
+    of : (k : FlatCode) → code ≡ k → IsFlatOf gs ls (Some (Plain x)) k
+    of k e = subst (λ (o : Option Basic). IsFlatOf gs ls o k) (numbered f.stand f.at) (has k e)
 
     stores : (word : Scalar) (c : FlatCell) (v : FlatWorth) → code ≡ Set word c v → Stores s.frames base (reads s process timeout) x word c v
     stores word c v e = of (Set word c v) e s.frames s.channels process (length s.stands) timeout f.fits

@@ -3,9 +3,6 @@ use Rattle.std.proofs.Common.{◌≡◌, ℕ, zero, suc, ◌*◌, ◌<◌, ◌�
 use Rattle.std.specs.List.{AllByRecursion}
 use Rattle.std.proofs.lemmas.List.{length-map}
 use Rattle.std.proofs.Math.Seq.{take-append_seam}
-use Rattle.diagnostics.specs.declared.fault.Fault.{Fault}
-use Rattle.diagnostics.specs.declared.stop.Stop.{Stop}
-use Rattle.diagnostics.specs.declared.stop.Stop.TheVariants as stop
 use Rattle.pml_program.specs.declared.program.Program.{Program}
 use Rattle.promela_process.specs.declared.sought.Sought.{Sought}
 use Rattle.promela_process.specs.Store.{ChannelState, cut, Frame, size_at}

@@ -9,4 +9,5 @@ pub mod Creating
 pub mod Counting
 pub mod Tables
 pub mod Fitting
+pub mod Widely
 pub mod Numbering

@@ -1,14 +1,13 @@
 -- Statements of the body in which a process stands, by their numbers.
-use Rattle.std.proofs.Common.{◌≡◌, ℕ, List, [], Option, Some, None, refl, sym, ap, ◌∙◌, slice_get}
+use Rattle.std.proofs.Common.{◌≡◌, ℕ, List, [], Option, Some, None, sym, ap, ◌∙◌, slice_get}
 use Rattle.std.specs.Prelude.{option_map}
 use Rattle.std.specs.Option.{option_map_or}
 use Rattle.pml_flow.specs.declared.edge.Edge.{Edge}
-use Rattle.pml_program.specs.declared.program.Basic.{Basic}
 use Rattle.pml_program.specs.declared.program.Stmt.{Stmt}
 use Rattle.pml_program.specs.declared.program.Seq.{Seq}
 use Rattle.pml_program.specs.declared.program.Proctype.{Proctype}
 use Rattle.pml_program.specs.declared.program.Program.{Program}
-use Rattle.promela_run.specs.State.{Stand, State, body_of}
+use Rattle.promela_run.specs.State.{State, body_of}
 use Rattle.promela_run.specs.Steps.{body_by}
 use Rattle.run_state.specs.declared.body.Body.{Body}
 use Rattle.run_state.specs.declared.seat.Seat.{Seat}

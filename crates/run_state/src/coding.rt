@@ -1,9 +1,10 @@
 //! The flat codes of a model's statements.
 
-ghost use Rattle.std.specs.Prelude.{◌≡◌, ◌<◌, [], length, IfOk, map, slice_get, slice_index_or};
+ghost use Rattle.std.specs.Prelude.{◌≡◌, ◌<◌, length, IfOk, OnOk, map, slice_get, slice_index_or};
 ghost use Rattle.std.specs.Option.{option_copied};
 ghost use Rattle.pml_flow.specs.Graph.{AreGraphs};
-ghost use Rattle.run_state.specs.Coded.{basic_in, AreCodes, AreAllCodes};
+ghost use Rattle.flat_code.specs.Wide.{wide_of};
+ghost use Rattle.run_state.specs.Coded.{basic_in, no_table, AddsCode, AreCodes, AreAllCodes};
 ghost use Rattle.run_state.specs.Standing.{statements_of};
 
 use crate::body::Body;
@@ -12,6 +13,8 @@ use flat_code::code::FlatCode;
 use flat_code::codes::Codes;
 use flat_code::make::code_of;
 use flat_code::owner::FlatOwner;
+use flat_code::wide::WideCode;
+use flat_code::wide_make::wide_code_of;
 use pml_flow::edge::Edge;
 use pml_flow::graph::Graph;
 use pml_flow::statements::Statements;
@@ -57,6 +60,24 @@ fn basic_at<'p, 'a>(statements: &Statements<'p, 'a>, number: usize) -> Option<&'
     Some(&statement.basic)
 }
 
+/// Adds the code of a statement: a flat one, or a wide one, or none.
+fn add_code(
+    globals: &FlatOwner<'_, '_>,
+    locals: &FlatOwner<'_, '_>,
+    basic: Option<&Basic<'_>>,
+    codes: &mut Codes,
+) -> Result<(), AllocError>
+    ensures { OnOk result (AddsCode globals.now locals.now (option_copied basic.entry) codes.old codes.new) }
+{
+    match code_of(globals, locals, basic) {
+        FlatCode::No => match wide_code_of(globals, locals, basic) {
+            Some(code) => codes.add_wide(code),
+            None => codes.add(FlatCode::No),
+        },
+        code => codes.add(code),
+    }
+}
+
 /// The codes of so many statements.
 fn codes_of(
     alloc: Global,
@@ -69,7 +90,7 @@ fn codes_of(
 {
     let mut codes = Codes::with_capacity(alloc, count)?;
     for number in 0..count {
-        codes.add(code_of(globals, locals, basic_at(statements, number)))?;
+        add_code(globals, locals, basic_at(statements, number), &mut codes)?;
     }
     Ok(codes)
 }
@@ -112,10 +133,21 @@ pub(crate) fn codes_of_all<'p, 'a>(
 /// The code of a statement of a proctype, by their numbers.
 #[inline(always)]
 pub(crate) fn code_at(codes: &[Codes], sort: usize, statement: usize) -> Option<&FlatCode>
-    ensures { option_copied result ≡ slice_get (slice_index_or codes.now sort []) statement }
+    ensures { option_copied result ≡ slice_get (slice_index_or codes.now sort no_table).codes statement }
 {
     match codes.get(sort) {
         Some(codes) => codes.get(statement),
+        None => None,
+    }
+}
+
+/// The wide code of a statement of a proctype, by their numbers.
+#[inline(always)]
+pub(crate) fn wide_at(codes: &[Codes], sort: usize, statement: usize) -> Option<&WideCode>
+    ensures { option_copied result ≡ wide_of (slice_index_or codes.now sort no_table) statement }
+{
+    match codes.get(sort) {
+        Some(codes) => codes.wide(statement),
         None => None,
     }
 }

@@ -3,8 +3,8 @@
 ghost use Rattle.std.specs.Prelude.{◌≡◌, ◌<◌, None, IfSome, length};
 ghost use Rattle.flat_code.specs.Flat.{base_of, index, worth, AreIn};
 ghost use Rattle.pml_store.specs.Writing.{joined, HasIndex};
-ghost use Rattle.run_state.specs.Coded.{IsCodeIn};
-ghost use Rattle.run_state.specs.Flatly.{AnswersCan, FitsIn, PutsAt, StoresBy};
+ghost use Rattle.run_state.specs.Coded.{IsCodeIn, IsWideIn};
+ghost use Rattle.run_state.specs.Flatly.{stored_by, taken_by, AnswersCan, FitsIn, HasWide, PutsAt, PutsIf, PutsNumber, StoresBy};
 ghost use Rattle.run_state.specs.Live.{Keeps};
 
 use crate::live::Live;
@@ -12,6 +12,8 @@ use crate::seat::seat_at;
 use diagnostics::{Fault, Stop};
 use flat_code::code::{FlatCell, FlatCode, FlatWorth};
 use flat_code::run::{index, worth};
+use flat_code::wide::{FlatStore, WideCode};
+use flat_code::wide_run::{wide_can, wide_store};
 use pml_eval::clip::clip;
 use pml_program::form::Form;
 use pml_tree::tree::Scalar;
@@ -24,6 +26,17 @@ impl Live<'_, '_> {
     {
         match seat_at(self.seats.as_slice(), process) {
             Some(seat) => self.played.code(seat.sort, statement),
+            None => None,
+        }
+    }
+
+    /// The wide code of a statement of a process, by their numbers, if it has one.
+    #[inline(always)]
+    fn wide(&self, process: usize, statement: usize) -> Option<&WideCode>
+        ensures { IfSome result (λ code. IsWideIn self.now.state process statement code.now) }
+    {
+        match seat_at(self.seats.as_slice(), process) {
+            Some(seat) => self.played.wide(seat.sort, statement),
             None => None,
         }
     }
@@ -48,6 +61,43 @@ impl Live<'_, '_> {
         worth(store, store.base(process + 1), value)
     }
 
+    /// What a wide code of a process stores, if anything.
+    #[inline(always)]
+    fn wide_stored(&self, process: usize, code: &WideCode) -> Result<Option<FlatStore>, Fault>
+        requires process { process < length self.now.state.stands }
+        requires there { HasWide self.now.state process code.now }
+        ensures { result ≡ stored_by self.now.state process code.now }
+    {
+        let _count = self.seats.len();
+        let store = &self.started.store;
+        wide_store(store, store.base(process + 1), process as u8, code)
+    }
+
+    /// Whether a wide code of a process can be taken.
+    #[inline(always)]
+    fn wide_taken(&self, process: usize, code: &WideCode) -> bool
+        requires process { process < length self.now.state.stands }
+        requires there { HasWide self.now.state process code.now }
+        ensures { result ≡ taken_by self.now.state process code.now }
+    {
+        let _count = self.seats.len();
+        let store = &self.started.store;
+        wide_can(store, store.base(process + 1), process as u8, code)
+    }
+
+    /// Stores a number in a cell, by its index among all.
+    #[inline(always)]
+    fn put_cell(&mut self, at: usize, number: i32) -> Result<(), Stop>
+        requires { HasIndex self.old.state.frames at }
+        ensures value { PutsNumber self.old.state at number result self.new.state }
+        ensures keeps { Keeps self.old self.new }
+    {
+        match self.started.store.set_cell(at, number) {
+            Ok(()) => Ok(()),
+            Err(_) => Err(Stop::Memory),
+        }
+    }
+
     /// Stores what a word keeps of a number in a cell.
     #[inline(always)]
     fn put_flat(
@@ -64,13 +114,50 @@ impl Live<'_, '_> {
     {
         let store = &self.started.store;
         let at = index(store, store.base(process + 1), cell);
-        match self
-            .started
-            .store
-            .set_cell(at, clip(Form::Plain(word), number))
-        {
-            Ok(()) => Ok(()),
-            Err(_) => Err(Stop::Memory),
+        self.put_cell(at, clip(Form::Plain(word), number))
+    }
+
+    /// Stores a number in its cell, if there is one.
+    #[inline(always)]
+    fn put_wide(&mut self, goes: Option<FlatStore>) -> Result<(), Stop>
+        requires { IfSome goes (λ x. HasIndex self.old.state.frames x.at) }
+        ensures value { PutsIf self.old.state goes result self.new.state }
+        ensures keeps { Keeps self.old self.new }
+    {
+        match goes {
+            None => Ok(()),
+            Some(goes) => self.put_cell(goes.at, goes.number),
+        }
+    }
+
+    /// Whether the statement with this number can be taken by itself by a process, if it has a wide code.
+    #[inline(never)]
+    fn can_wide(&self, process: usize, statement: usize) -> Option<bool>
+        requires { process < length self.now.state.stands }
+        ensures { IfSome result (AnswersCan self.now.state process statement) }
+    {
+        self.fits(process);
+        match self.wide(process, statement) {
+            Some(code) => Some(self.wide_taken(process, code)),
+            None => None,
+        }
+    }
+
+    /// Takes the statement with this number as `store` does, if it has a wide code.
+    #[inline(never)]
+    fn store_wide(&mut self, process: usize, statement: usize) -> Option<Result<(), Stop>>
+        requires { process < length self.old.state.stands }
+        ensures value { IfSome result (StoresBy self.old.state process statement self.new.state) }
+        ensures nothing { result ≡ None → self.new ≡ self.old }
+        ensures keeps { Keeps self.old self.new }
+    {
+        self.fits(process);
+        match self.wide(process, statement) {
+            Some(code) => match self.wide_stored(process, code) {
+                Err(fault) => Some(Err(Stop::Fault(fault))),
+                Ok(goes) => Some(self.put_wide(goes)),
+            },
+            None => None,
         }
     }
 
@@ -87,6 +174,7 @@ impl Live<'_, '_> {
                 Err(_) => Some(true),
                 Ok(number) => Some(number != 0),
             },
+            Some(FlatCode::Wide(_)) => self.can_wide(process, statement),
             _ => None,
         }
     }
@@ -112,6 +200,7 @@ impl Live<'_, '_> {
                 Err(fault) => Some(Err(Stop::Fault(fault))),
                 Ok(_) => Some(Ok(())),
             },
+            Some(FlatCode::Wide(_)) => self.store_wide(process, statement),
             _ => None,
         }
     }

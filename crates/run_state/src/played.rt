@@ -4,16 +4,17 @@ ghost use Rattle.std.specs.Prelude.{◌≡◌, IfOk, IfSome, map, option_map, sl
 ghost use Rattle.std.specs.Option.{option_copied};
 ghost use Rattle.pml_flow.specs.Graph.{AreGraphs};
 ghost use Rattle.promela_run.specs.State.{body_of, begins_at, variables_at};
-ghost use Rattle.run_state.specs.Coded.{basic_in, statements_at};
-ghost use Rattle.flat_code.specs.Flat.{IsCodeOf};
+ghost use Rattle.run_state.specs.Coded.{basic_in, statements_at, IsFlatOf};
+ghost use Rattle.flat_code.specs.Wide.{IsWideCodeOf};
 ghost use Rattle.run_state.specs.Held.{sorts_of};
 ghost use Rattle.run_state.specs.Standing.{stand_of, statements_of, IsBody};
 
 use crate::body::Body;
-use crate::coding::{code_at, codes_of_all};
+use crate::coding::{code_at, codes_of_all, wide_at};
 use crate::seat::Seat;
 use flat_code::code::FlatCode;
 use flat_code::codes::Codes;
+use flat_code::wide::WideCode;
 use pml_flow::graph::Graph;
 use pml_flow::statements::{Statements, all_statements};
 use pml_program::program::{Proctype, Program};
@@ -175,10 +176,19 @@ impl<'p, 'a> Played<'p, 'a> {
     /// The flat code of a statement of a proctype, by their numbers.
     #[inline(always)]
     pub fn code(&self, sort: usize, statement: usize) -> Option<&FlatCode>
-        ensures { IfSome result (λ code. IsCodeOf self.now.globals (variables_at self.now sort)
+        ensures { IfSome result (λ code. IsFlatOf self.now.globals (variables_at self.now sort)
             (basic_in (statements_at self.now sort) statement) code.now) }
     {
         code_at(self.flat.as_slice(), sort, statement)
+    }
+
+    /// The wide code of a statement of a proctype, by their numbers, if it has one.
+    #[inline(always)]
+    pub fn wide(&self, sort: usize, statement: usize) -> Option<&WideCode>
+        ensures { IfSome result (λ code. IsWideCodeOf self.now.globals (variables_at self.now sort)
+            (basic_in (statements_at self.now sort) statement) code.now) }
+    {
+        wide_at(self.flat.as_slice(), sort, statement)
     }
 
     /// A process of the proctype with this number before its first statement.

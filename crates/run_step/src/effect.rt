@@ -13,7 +13,7 @@ ghost use Rattle.run_state.specs.Live.{Leads, Joins, PastGrows};
 ghost use Rattle.run_step.specs.Done.{Does, Grows};
 
 use crate::arguments::{goes_to, values_of};
-use crate::storing::{assign_element, has_index, store};
+use crate::storing::store;
 use diagnostics::{Fault, Stop};
 use pml_eval::eval::eval;
 use pml_program::expr::{Expr, Target};
@@ -205,9 +205,6 @@ fn does_at_once(
 {
     match action {
         Action::Else | Action::Holds(Expr::Number(_)) => Ok(()),
-        Action::Assign(Some(target), value) if has_index(target) => {
-            assign_element(live, process, timeout, target, value)
-        }
         Action::Assign(_, _) | Action::Holds(_) => store(live, process, timeout, action, statement),
         Action::Increment(_) => store(live, process, timeout, action, statement),
         Action::Decrement(_) => store(live, process, timeout, action, statement),

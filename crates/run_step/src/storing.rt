@@ -23,8 +23,7 @@ use promela_run::goes::Goes;
 use run_state::live::Live;
 
 /// Whether a target has an index, or is of a typedef.
-#[inline(always)]
-pub(crate) fn has_index(target: &Target) -> bool {
+fn has_index(target: &Target) -> bool {
     let turns = target.turns.as_slice();
     turns.len() != 1 || turns[0].index.is_some()
 }
@@ -59,9 +58,9 @@ fn put_by_turns(
     }
 }
 
-/// Takes an assignment to an element.
+/// Takes an assignment to an element without a flat code.
 #[inline(never)]
-pub(crate) fn assign_element(
+fn assign_element(
     live: &mut Live<'_, '_>,
     process: usize,
     timeout: bool,
@@ -91,7 +90,12 @@ fn store_slowly(
     ensures value { Leads (put_by live.old.state (outcome action.now (reads live.old.state process timeout))) result live.new.state }
     ensures keeps { Keeps live.old live.new }
 {
-    live.store(process, timeout, action)
+    match action {
+        Action::Assign(Some(target), value) if has_index(target) => {
+            assign_element(live, process, timeout, target, value)
+        }
+        _ => live.store(process, timeout, action),
+    }
 }
 
 /// Takes an assignment, an increment, a decrement or a condition of a process, by its number.

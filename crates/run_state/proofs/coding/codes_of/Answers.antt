@@ -1,14 +1,14 @@
-use Rattle.std.proofs.Common.{rules, arith, length, length-append, ◌∷◌, [], ◌≡◌, ◌+◌}
-use Rattle.run_state.proofs.Tables.{more_codes}
+use Rattle.std.proofs.Common.{◌≡◌, ◌+◌, ◌∙◌, ℕ, arith, ap, length, sym}
+use Rattle.run_state.specs.Coded.{basic_in}
 use Rattle.run_state.proofs.coding.codes_of.Goals as goal
 
 pub loop-number-preserved : goal.loop-number-preserved
 loop-number-preserved c =
-    let i = c.in_ok-add.ensures in
-    let a = length-append c.loop-number.codes (c.code_of.result ∷ []) in
+    let a = c.in_ok-add_code.ensures in
     let e = c.loop-number.invariant.counted in
-    let n : c.loop-number.number + 1 ≡ length c.add.new.self = rw i (omega (arith, a, e)) in
+    let counted = a.counted in
+    let n : c.loop-number.number + 1 ≡ length c.add_code.new.codes.codes = omega (arith, counted, e) in
     record {
       counted = n;
-      are = rw i (more_codes c.args.globals.now c.args.locals.now c.args.statements.now c.loop-number.codes c.code_of.result c.loop-number.number e c.loop-number.invariant.are (rw c.basic_at.ensures at c.code_of.ensures));
+      are = a.are c.args.statements.now (ap (λ (n : ℕ). basic_in c.args.statements.now n) (sym e) ∙ sym c.basic_at.ensures) c.loop-number.invariant.are;
     }

@@ -1,4 +1,4 @@
-use Rattle.std.proofs.Common.{arith, length, length-append, ◌∷◌, [], ◌≡◌, ◌+◌, ◌∙◌, sym}
+use Rattle.std.proofs.Common.{arith, length-append, ◌∷◌, [], ◌≡◌, ◌∙◌, sym}
 use Rattle.run_state.proofs.Tables.{more_all, body_codes}
 use Rattle.run_state.proofs.coding.codes_of_all.Goals as goal
 
