@@ -6,6 +6,7 @@ pub mod Offering
 pub mod Sends
 pub mod Placing
 pub mod Waiting
+pub mod Idle
 pub mod Listening
 pub mod Interests
 pub mod Keeping

@@ -9,8 +9,9 @@ use Rattle.std.proofs.lemmas.Bool.Decides.{nat_tests}
 use Rattle.promela_run.specs.declared.moves.Pick.{Pick}
 use Rattle.promela_run.specs.declared.moves.Move.{Move}
 use Rattle.run_state.specs.declared.seat.Seat.{Seat}
-use Rattle.run_search.specs.declared.demands.Demand.{Demand}
-use Rattle.run_search.specs.declared.demands.Demand.TheVariants.{Nothing, One, Two, Anything}
+use Rattle.run_search.specs.declared.demand.Demand.{Demand}
+use Rattle.run_search.specs.declared.demand.Interests.{Interests}
+use Rattle.run_search.specs.declared.demand.Interests.TheVariants.{Nothing, One, Two, Anything}
 use Rattle.run_search.specs.declared.listeners.Span.{Span}
 use Rattle.run_search.specs.declared.listeners.Known.{Known}
 use Rattle.promela_run.specs.State.{State, Stand}
@@ -104,7 +105,7 @@ first_true : (a b : Bool) → (a && b) ≡ true → a ≡ true
 first_true true b e = refl
 first_true false b e = cc
 
-kept_on : (xs : List Span) (any : Span) (w : Demand) (j at i : ℕ) → Hears (slice_get xs at) any i → Hears (slice_get (spans_with xs w j) at) (any_with any w j) i
+kept_on : (xs : List Span) (any : Span) (w : Interests) (j at i : ℕ) → Hears (slice_get xs at) any i → Hears (slice_get (spans_with xs w j) at) (any_with any w j) i
 kept_on xs any Nothing j at i h = h
 kept_on xs any (One x) j at i h = still_heard xs any (place_of x.number) j at i h
 kept_on xs any (Two x y) j at i h = still_heard (widened xs (place_of x.number) j) any (place_of y.number) j at i (still_heard xs any (place_of x.number) j at i h)
@@ -116,7 +117,7 @@ asked_here xs any x j m e =
     subst (λ (a : ℤ). Hears (slice_get (widened xs (place_of x.number) j) (place_of a)) any j) (equal x.number m.number (first_true (int_eq x.number m.number) (begins_so x.first m.fields) e))
     (now_heard xs any (place_of x.number) j)
 
-here : (xs : List Span) (any : Span) (w : Demand) (j : ℕ) (m : Message) → may_take w m ≡ true → Hears (slice_get (spans_with xs w j) (place_of m.number)) (any_with any w j) j
+here : (xs : List Span) (any : Span) (w : Interests) (j : ℕ) (m : Message) → may_take w m ≡ true → Hears (slice_get (spans_with xs w j) (place_of m.number)) (any_with any w j) j
 here xs any Nothing j m e = cc
 here xs any (One x) j m e = asked_here xs any x j m e
 here xs any (Two x y) j m e = by (asks x m) refl
@@ -126,17 +127,17 @@ here xs any (Two x y) j m e = by (asks x m) refl
     by false i = asked_here (widened xs (place_of x.number) j) any y j m (sym (ap (λ (b : Bool). b || asks y m) i) ∙ e)
 here xs any Anything j m e = now_any (slice_get xs (place_of m.number)) any j
 
-pub heard_one : (ws : List Demand) (xs : List Span) (any : Span) (w : Demand) (j : ℕ) → slice_get ws j ≡ Some w → AreHeard ws xs any j → AreHeard ws (spans_with xs w j) (any_with any w j) (j + 1)
+pub heard_one : (ws : List Demand) (xs : List Span) (any : Span) (w : Demand) (j : ℕ) → slice_get ws j ≡ Some w → AreHeard ws xs any j → AreHeard ws (spans_with xs w.interests j) (any_with any w.interests j) (j + 1)
 heard_one ws xs any w j at h i v m l is e = by (cases_lt i j)
   where
-    by : (i < j) ⊎ (j ≤ i) → Hears (slice_get (spans_with xs w j) (place_of m.number)) (any_with any w j) i
-    by (inl k) = kept_on xs any w j (place_of m.number) i (h i v m k is e)
+    by : (i < j) ⊎ (j ≤ i) → Hears (slice_get (spans_with xs w.interests j) (place_of m.number)) (any_with any w.interests j) i
+    by (inl k) = kept_on xs any w.interests j (place_of m.number) i (h i v m k is e)
     by (inr k) =
         let same : i ≡ j = omega (arith, l, k) in
         let vw : Some v ≡ Some w = sym is ∙ (ap (slice_get ws) same ∙ at) in
         let one : v ≡ w = cc in
-        subst (λ (a : ℕ). Hears (slice_get (spans_with xs w j) (place_of m.number)) (any_with any w j) a) (sym same)
-        (here xs any w j m (ap (λ (u : Demand). may_take u m) (sym one) ∙ e))
+        subst (λ (a : ℕ). Hears (slice_get (spans_with xs w.interests j) (place_of m.number)) (any_with any w.interests j) a) (sym same)
+        (here xs any w.interests j m (ap (λ (u : Demand). may_take u.interests m) (sym one) ∙ e))
 
 -- ---- what is known
 
@@ -147,12 +148,12 @@ known_all s t k demands many heard = record {
   heard = λ i y q m at out.
       let l : i < length k.demands.now = omega (arith, within s.stands i y at, many) in
       let w = there k.demands.now i l in
-      by i y q m at out l w.0 w.1 (may_take w.0 m) refl;
+      by i y q m at out l w.0 w.1 (may_take w.0.interests m) refl;
 }
   where
-    by : (i : ℕ) (y : Stand) (q : Pick) (m : Message) → slice_get s.stands i ≡ Some y → (Hears (slice_get k.spans.now (place_of m.number)) k.any i → ⊥) → i < length k.demands.now → (w : Demand) → slice_get k.demands.now i ≡ Some w → (b : Bool) → may_take w m ≡ b → pairs_with s t q m i y ≡ []
+    by : (i : ℕ) (y : Stand) (q : Pick) (m : Message) → slice_get s.stands i ≡ Some y → (Hears (slice_get k.spans.now (place_of m.number)) k.any i → ⊥) → i < length k.demands.now → (w : Demand) → slice_get k.demands.now i ≡ Some w → (b : Bool) → may_take w.interests m ≡ b → pairs_with s t q m i y ≡ []
     by i y q m at out l w is true e = absurd (out (heard i w m l is e))
-    by i y q m at out l w is false e = demands i w y is at q m e
+    by i y q m at out l w is false e = (demands i w y is at).receives q m e
 
 -- who does not lie where a channel is heard receives nothing there
 pub outside : (s : State) (t : Bool) (k : Known) (q : Pick) (m : Message) (xs : List Seat) (number : ℤ) (first end : ℕ) → AreKnown s t k → map (stand_of s.program) xs ≡ s.stands → number ≡ m.number → ((i : ℕ) → i < length xs → Hears (slice_get k.spans.now (place_of number)) k.any i → (first ≤ i) × (i < end)) → (i : ℕ) (x : Seat) → slice_get xs i ≡ Some x → (first ≤ i → i < end → ⊥) → pairs_with s t q m i (stand_of s.program x) ≡ []

@@ -33,9 +33,11 @@ common_seat s x b es h one common = record {
   moves = λ t p m older younger.
       level t m
       ∙ (all_move_alike s p m t (seq_of b) 0 (map (shows b) es) common ∙ ap (map (by_process m)) (sym (level t p)));
-  demands = λ t p j w known. demands_in x b s t j w es h one (λ k m l d.
+  demands = λ t p j w older younger known. demands_in x b s t j w es h one
+      (λ k m l d.
       all_are_deaf s t (pick (p + 1) 0 0) k m p j 0 l (map (shows b) es) common
-      (sym (heard t (pick (p + 1) 0 0) m p (not_next p)) ∙ known (pick (p + 1) 0 0) m d));
+      (sym (heard t (pick (p + 1) 0 0) m p (not_next p)) ∙ known.receives (pick (p + 1) 0 0) m d))
+      (λ q. level t j ∙ (all_move_alike s p j t (seq_of b) 0 (map (shows b) es) common ∙ ap (map (by_process j)) (sym (level t p) ∙ known.moves q)));
 }
   where
     level : (t : Bool) (p : ℕ) → moves_at s p t (stand_of s.program x) ≡ moves_on s p t (seq_of b) 0 (map (shows b) es)
@@ -48,7 +50,7 @@ common_seat s x b es h one common = record {
 pub closed_seat : (s : State) (x : Seat) → (stand_of s.program x).control ≡ [] → IsCommonSeat s x
 closed_seat s x e = record {
   moves = λ t p m older younger. nothing m t younger ∙ ap (map (by_process m)) (sym (nothing p t older));
-  demands = λ t p j w known. demands_closed s t j (stand_of s.program x) w e;
+  demands = λ t p j w older younger known. demands_closed s t j (stand_of s.program x) w e (λ q. nothing j t younger);
 }
   where
     not_youngest : (m n : ℕ) → m + 1 < n → nat_eq (m + 1) n ≡ false

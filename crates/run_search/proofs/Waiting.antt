@@ -8,13 +8,15 @@ use Rattle.promela_run.specs.declared.moves.Pick.{Pick}
 use Rattle.promela_run.specs.declared.moves.Move.{Move}
 use Rattle.run_state.specs.declared.seat.Seat.{Seat}
 use Rattle.run_state.specs.declared.body.Body.{Body}
-use Rattle.run_search.specs.declared.demands.Demand.{Demand}
+use Rattle.run_search.specs.declared.demand.Demand.{Demand}
 use Rattle.promela_run.specs.State.{State, Stand, body_of, levels_in}
-use Rattle.run_state.specs.Standing.{stand_of, StandsIn, shows, edges_at}
-use Rattle.promela_run.specs.Moves.{Message, or_else, each, last, pairs_on, pairs_with}
-use Rattle.run_search.specs.Demands.{may_take, may_at, DemandsFor, AreDemands}
+use Rattle.run_state.specs.Standing.{stand_of, StandsIn, shows, edges_at, seq_of}
+use Rattle.promela_run.specs.Moves.{Message, or_else, each, last, pairs_on, pairs_with, moves_on, moves_at}
+use Rattle.run_search.specs.declared.demand.OwnMoves.{OwnMoves}
+use Rattle.run_search.specs.declared.demand.OwnMoves.TheVariants.{Unknown}
+use Rattle.run_search.specs.Demands.{may_take, may_at, own_at, HasNone, DemandsFor, AreDemands, AreIdleOn}
 use Rattle.run_state.proofs.Finding.{opens, opens_at, held}
-use Rattle.run_search.proofs.Placing.{pairs_in, pairs_closed}
+use Rattle.run_search.proofs.Placing.{moves_in, pairs_in, pairs_closed}
 
 -- ---- a process
 
@@ -24,20 +26,32 @@ own s t k m j y i =
     ap (λ (b : Bool). if b then [] else last (pairs_on s t k m j) 0 (levels_in (body_of s.program y.sort) y.control)) i
 
 -- at its closing brace it waits for nothing
-pub demands_closed : (s : State) (t : Bool) (j : ℕ) (y : Stand) (w : Demand) → y.control ≡ [] → DemandsFor s t j y w
-demands_closed s t j y w e k m d = by (nat_eq j k.process) refl
+pub demands_closed : (s : State) (t : Bool) (j : ℕ) (y : Stand) (w : Demand) → y.control ≡ [] → (HasNone s t w.own → moves_at s j t y ≡ []) → DemandsFor s t j y w
+demands_closed s t j y w e none = record { receives = λ k m d. by k m (nat_eq j k.process) refl; moves = none }
   where
-    by : (b : Bool) → nat_eq j k.process ≡ b → pairs_with s t k m j y ≡ []
-    by true i = own s t k m j y i
-    by false i = pairs_closed s t k m j y i e
+    by : (k : Pick) (m : Message) (b : Bool) → nat_eq j k.process ≡ b → pairs_with s t k m j y ≡ []
+    by k m true i = own s t k m j y i
+    by k m false i = pairs_closed s t k m j y i e
+
+-- where nothing is known of its moves nothing is said of them
+pub unknown : (s : State) (t : Bool) (j : ℕ) (y : Stand) (w : Demand) → w.own ≡ Unknown → HasNone s t w.own → moves_at s j t y ≡ []
+unknown s t j y w e none = absurd (subst (λ (o : OwnMoves). HasNone s t o) e none)
 
 -- where it has one level it waits for what that receives
-pub demands_in : (x : Seat) (b : Body) (s : State) (t : Bool) (j : ℕ) (w : Demand) (es : List Edge) → StandsIn s x b → edges_at b x.node ≡ es ∷ [] → ((k : Pick) (m : Message) (l : ℕ) → may_take w m ≡ false → pairs_on s t k m j l (map (shows b) es) ≡ []) → DemandsFor s t j (stand_of s.program x) w
-demands_in x b s t j w es h l none k m d = by (nat_eq j k.process) refl
+pub demands_in : (x : Seat) (b : Body) (s : State) (t : Bool) (j : ℕ) (w : Demand) (es : List Edge) → StandsIn s x b → edges_at b x.node ≡ es ∷ []
+    → ((k : Pick) (m : Message) (l : ℕ) → may_take w.interests m ≡ false → pairs_on s t k m j l (map (shows b) es) ≡ [])
+    → (HasNone s t w.own → moves_at s j t (stand_of s.program x) ≡ []) → DemandsFor s t j (stand_of s.program x) w
+demands_in x b s t j w es h l none mine = record { receives = λ k m d. by k m d (nat_eq j k.process) refl; moves = mine }
   where
-    by : (o : Bool) → nat_eq j k.process ≡ o → pairs_with s t k m j (stand_of s.program x) ≡ []
-    by true i = own s t k m j (stand_of s.program x) i
-    by false i = pairs_in x b s t k m j i h ∙ (ap (λ (ls : List (List Edge)). last (pairs_on s t k m j) 0 (map (map (shows b)) ls)) l ∙ none k m 0 d)
+    by : (k : Pick) (m : Message) → may_take w.interests m ≡ false → (o : Bool) → nat_eq j k.process ≡ o → pairs_with s t k m j (stand_of s.program x) ≡ []
+    by k m d true i = own s t k m j (stand_of s.program x) i
+    by k m d false i = pairs_in x b s t k m j i h ∙ (ap (λ (ls : List (List Edge)). last (pairs_on s t k m j) 0 (map (map (shows b)) ls)) l ∙ none k m 0 d)
+
+-- where its one level gives none it has no move
+pub none_in : (x : Seat) (b : Body) (s : State) (t : Bool) (j : ℕ) (own : OwnMoves) (es : List Edge) → StandsIn s x b → edges_at b x.node ≡ es ∷ []
+    → AreIdleOn own s t j (map (shows b) es) → HasNone s t own → moves_at s j t (stand_of s.program x) ≡ []
+none_in x b s t j mine es h l idle none =
+    moves_in x b s j t h ∙ (ap (λ (ls : List (List Edge)). last (moves_on s j t (seq_of b)) 0 (map (map (shows b)) ls)) l ∙ idle none (seq_of b) 0)
 
 -- ---- all
 
@@ -69,7 +83,15 @@ demands_at s t ws j y h e k m d = by (slice_get ws j) refl
   where
     by : (o : Option Demand) → slice_get ws j ≡ o → pairs_with s t k m j y ≡ []
     by None i = let z : true ≡ false = sym (ap (λ (o : Option Demand). may_at o m) i) ∙ d in cc
-    by (Some w) i = h j w y i e k m (sym (ap (λ (o : Option Demand). may_at o m) i) ∙ d)
+    by (Some w) i = (h j w y i e).receives k m (sym (ap (λ (o : Option Demand). may_at o m) i) ∙ d)
+
+-- of whom it is known has no move
+pub none_there : (s : State) (t : Bool) (ws : List Demand) (j : ℕ) (y : Stand) → AreDemands s t ws → slice_get s.stands j ≡ Some y → HasNone s t (own_at (slice_get ws j)) → moves_at s j t y ≡ []
+none_there s t ws j y h e none = by (slice_get ws j) refl
+  where
+    by : (o : Option Demand) → slice_get ws j ≡ o → moves_at s j t y ≡ []
+    by None i = absurd (subst (λ (o : Option Demand). HasNone s t (own_at o)) i none)
+    by (Some w) i = (h j w y i e).moves (subst (λ (o : Option Demand). HasNone s t (own_at o)) i none)
 
 -- ---- an offer that gives nothing, and the end of a level
 
@@ -98,9 +120,11 @@ pub last_over : {A B : Type 0} (f : ℕ → A → List B) (xs : List A) (n : ℕ
 last_over f xs n l = ap (λ ys. last f n ys) (drop_all n xs l)
 
 -- where no level receives anything else
-pub demands_down : (x : Seat) (b : Body) (s : State) (t : Bool) (j : ℕ) (w : Demand) → StandsIn s x b → ((k : Pick) (m : Message) → may_take w m ≡ false → last (pairs_on s t k m j) 0 (map (map (shows b)) (edges_at b x.node)) ≡ []) → DemandsFor s t j (stand_of s.program x) w
-demands_down x b s t j w h none k m d = by (nat_eq j k.process) refl
+pub demands_down : (x : Seat) (b : Body) (s : State) (t : Bool) (j : ℕ) (w : Demand) → StandsIn s x b
+    → ((k : Pick) (m : Message) → may_take w.interests m ≡ false → last (pairs_on s t k m j) 0 (map (map (shows b)) (edges_at b x.node)) ≡ [])
+    → w.own ≡ Unknown → DemandsFor s t j (stand_of s.program x) w
+demands_down x b s t j w h none mine = record { receives = λ k m d. by k m d (nat_eq j k.process) refl; moves = unknown s t j (stand_of s.program x) w mine }
   where
-    by : (o : Bool) → nat_eq j k.process ≡ o → pairs_with s t k m j (stand_of s.program x) ≡ []
-    by true i = own s t k m j (stand_of s.program x) i
-    by false i = pairs_in x b s t k m j i h ∙ none k m d
+    by : (k : Pick) (m : Message) → may_take w.interests m ≡ false → (o : Bool) → nat_eq j k.process ≡ o → pairs_with s t k m j (stand_of s.program x) ≡ []
+    by k m d true i = own s t k m j (stand_of s.program x) i
+    by k m d false i = pairs_in x b s t k m j i h ∙ none k m d

@@ -1,8 +1,9 @@
 -- Between which processes those lie that may receive on a channel.
 use Rattle.std.specs.Prelude.{◌≡◌, ℕ, zero, suc, ◌<◌, ◌≤◌, ◌⊎◌, Bool, true, if◌then◌else◌, nat_lt, List, [], length, ℤ, pos, negsuc, Option, Some, None, slice_get, slice_set, slice_index_or}
 use Rattle.promela_run.specs.declared.moves.Pick.{Pick}
-use Rattle.run_search.specs.declared.demands.Demand.{Demand}
-use Rattle.run_search.specs.declared.demands.Demand.TheVariants.{Nothing, One, Two, Anything}
+use Rattle.run_search.specs.declared.demand.Demand.{Demand}
+use Rattle.run_search.specs.declared.demand.Interests.{Interests}
+use Rattle.run_search.specs.declared.demand.Interests.TheVariants.{Nothing, One, Two, Anything}
 use Rattle.run_search.specs.declared.listeners.Span.{Span}
 use Rattle.run_search.specs.declared.listeners.Known.{Known}
 use Rattle.promela_run.specs.State.{Stand, State}
@@ -25,13 +26,13 @@ abbrev pub widened : List Span → ℕ → ℕ → List Span
 widened xs k j = if nat_lt k (length xs) then slice_set xs k (with_one (slice_index_or xs k (record { first = 0; last = 0 })) j) else xs
 
 -- one that waits so is among those of its channels, or among those that may receive anything
-abbrev pub spans_with : List Span → Demand → ℕ → List Span
+abbrev pub spans_with : List Span → Interests → ℕ → List Span
 spans_with xs Nothing j = xs
 spans_with xs (One x) j = widened xs (place_of x.number) j
 spans_with xs (Two x y) j = widened (widened xs (place_of x.number) j) (place_of y.number) j
 spans_with xs Anything j = xs
 
-abbrev pub any_with : Span → Demand → ℕ → Span
+abbrev pub any_with : Span → Interests → ℕ → Span
 any_with x Nothing j = x
 any_with x (One y) j = x
 any_with x (Two y z) j = x
@@ -51,7 +52,7 @@ HearsOn k n i = Hears (slice_get k.spans.now (place_of n)) k.any i
 
 -- of so many processes each lies where its channel is heard
 abbrev pub AreHeard : List Demand → List Span → Span → ℕ → Type 0
-AreHeard ws xs any n = (i : ℕ) (w : Demand) (m : Message) → i < n → slice_get ws i ≡ Some w → may_take w m ≡ true → Hears (slice_get xs (place_of m.number)) any i
+AreHeard ws xs any n = (i : ℕ) (w : Demand) (m : Message) → i < n → slice_get ws i ≡ Some w → may_take w.interests m ≡ true → Hears (slice_get xs (place_of m.number)) any i
 
 -- What is known is so of a state: who lies elsewhere, or waits for another message, receives none.
 pub record AreKnown (s : State) (t : Bool) (k : Known) : Type 0 where

@@ -2,20 +2,17 @@
 
 ghost use Rattle.std.specs.Prelude.{◌≡◌, ◌+◌, ◌<◌, ◌≤◌, false, IfOk, OnOk, length, map, slice_get};
 ghost use Rattle.std.specs.Option.{option_copied};
-ghost use Rattle.pml_value.specs.Seen.{seen};
 ghost use Rattle.run_state.specs.Standing.{stand_of, IsBody, shows, offers_at};
-ghost use Rattle.promela_run.specs.Moves.{Message as Sent, accepts};
+ghost use Rattle.promela_run.specs.Moves.{Message as Sent};
 ghost use Rattle.run_search.specs.Together.{StandThere};
-ghost use Rattle.run_search.specs.Demands.{asks, may_take, may_at, does_accept, DemandsOn, DemandsDown, DemandsFor, AreDemands};
+ghost use Rattle.run_search.specs.Demands.{may_take, may_at, own_at, DemandsOn, DemandsDown, DemandsFor, AreDemands, AreIdleOn};
+ghost use Rattle.run_search.specs.declared.demand.OwnMoves.TheVariants.{Unknown};
 
 use crate::common::{is_common_seat, next_elsewhere};
-use crate::executable::named;
-use crate::interest::Interest;
+use crate::demand::{Demand, NO_DEMAND, NO_DEMAND_YET, OwnMoves};
 use crate::lent::lent;
-use crate::message::{Message, is_receive};
+use crate::message::Message;
 use pml_flow::edge::Edge;
-use pml_program::program::{Action, Basic};
-use pml_value::view::View;
 use promela_run::live_channel::LiveChannel;
 use run_state::body::Body;
 use run_state::live::Live;
@@ -24,125 +21,6 @@ use std::alloc::{AllocError, Global};
 
 /// As many processes are enough to look beforehand what each waits for.
 pub(crate) const ENOUGH_PROCESSES: usize = 8;
-
-/// What a process may receive, so far as it is said beforehand: nothing; what one or two receives ask for; or anything.
-#[derive(Clone, Copy)]
-pub enum Demand {
-    Nothing,
-    One(Interest),
-    Two(Interest, Interest),
-    Anything,
-}
-
-/// What one receive asks for, or another.
-fn either(own: Interest, more: Interest) -> Demand
-    ensures one { (m : Sent) → may_take result m ≡ false → asks own m ≡ false }
-    ensures other { (m : Sent) → may_take result m ≡ false → asks more m ≡ false }
-{
-    if own.covers(more) {
-        return Demand::One(own);
-    }
-    Demand::Two(own, more)
-}
-
-/// What two receives ask for, or a third: all messages of a channel on which two of them wait.
-fn any_of(one: Interest, two: Interest, more: Interest) -> Demand
-    ensures one { (m : Sent) → may_take result m ≡ false → asks one m ≡ false }
-    ensures two { (m : Sent) → may_take result m ≡ false → asks two m ≡ false }
-    ensures other { (m : Sent) → may_take result m ≡ false → asks more m ≡ false }
-{
-    if one.covers(more) || two.covers(more) {
-        return Demand::Two(one, two);
-    }
-    if one.number == more.number {
-        return Demand::Two(one.widened(), two);
-    }
-    if two.number == more.number {
-        return Demand::Two(one, two.widened());
-    }
-    if one.number == two.number {
-        return Demand::Two(one.widened(), more);
-    }
-    Demand::Anything
-}
-
-impl Demand {
-    /// What may be received so, or by a receive that asks for this.
-    fn or_asked(self, more: Interest) -> Demand
-        ensures one { (m : Sent) → may_take result m ≡ false → may_take self m ≡ false }
-        ensures other { (m : Sent) → may_take result m ≡ false → asks more m ≡ false }
-    {
-        match self {
-            Demand::Nothing => Demand::One(more),
-            Demand::One(own) => either(own, more),
-            Demand::Two(one, two) => any_of(one, two, more),
-            Demand::Anything => Demand::Anything,
-        }
-    }
-
-    /// What may be received so, or by an offer.
-    fn or_by(self, view: &View<'_>, basic: Option<&Basic<'_>>) -> Demand
-        ensures one { (m : Sent) → may_take result m ≡ false → may_take self m ≡ false }
-        ensures other { (m : Sent) → may_take result m ≡ false → accepts view.now.channels.now (seen view.now) m (option_copied basic.entry) ≡ false }
-    {
-        let Some(Basic::Plain(Action::Receive(target, _, _, arguments))) = basic else {
-            return self;
-        };
-        match named(view, target, arguments.len()) {
-            Ok((number, _)) => {
-                self.or_asked(Interest::of_receive(view, number, arguments.as_slice()))
-            }
-            Err(_) => self,
-        }
-    }
-
-    /// What may be received so, or by a statement of process j.
-    #[inline(never)]
-    fn or_received(
-        self,
-        live: &Live<'_, '_>,
-        j: usize,
-        timeout: bool,
-        basic: Option<&Basic<'_>>,
-    ) -> Demand
-        requires { j < length live.now.state.stands }
-        ensures one { (m : Sent) → may_take result m ≡ false → may_take self m ≡ false }
-        ensures other { (m : Sent) → may_take result m ≡ false → does_accept live.now.state j timeout m (option_copied basic.entry) ≡ false }
-    {
-        self.or_by(&live.view(j, timeout), basic)
-    }
-
-    /// What may be received so, or by a statement of process j. Only a receive is asked.
-    #[inline(always)]
-    fn or_offer(
-        self,
-        live: &Live<'_, '_>,
-        j: usize,
-        timeout: bool,
-        basic: Option<&Basic<'_>>,
-    ) -> Demand
-        requires { j < length live.now.state.stands }
-        ensures one { (m : Sent) → may_take result m ≡ false → may_take self m ≡ false }
-        ensures other { (m : Sent) → may_take result m ≡ false → does_accept live.now.state j timeout m (option_copied basic.entry) ≡ false }
-    {
-        if !is_receive(basic) {
-            return self;
-        }
-        self.or_received(live, j, timeout, basic)
-    }
-
-    /// Whether a message may be received so.
-    fn takes(self, message: &Message<'_, '_>) -> bool
-        ensures { result ≡ may_take self message.now }
-    {
-        match self {
-            Demand::Nothing => false,
-            Demand::One(own) => own.is_for(message),
-            Demand::Two(one, two) => one.is_for(message) || two.is_for(message),
-            Demand::Anything => true,
-        }
-    }
-}
 
 /// What may be received so far, or by the offers of a level.
 #[inline(always)]
@@ -156,8 +34,9 @@ fn demand_on(
 ) -> Demand
     requires there { j < length live.now.state.stands }
     requires body { IsBody body.now }
-    ensures one { (m : Sent) → may_take result m ≡ false → may_take so_far m ≡ false }
-    ensures other { DemandsOn live.now.state timeout j (map (shows body.now) edges.now) result }
+    ensures one { (m : Sent) → may_take result.interests m ≡ false → may_take so_far.interests m ≡ false }
+    ensures other { DemandsOn live.now.state timeout j (map (shows body.now) edges.now) result.interests }
+    ensures idle { AreIdleOn result.own live.now.state timeout j (map (shows body.now) edges.now) }
 {
     let mut demand = so_far;
     for edge in edges {
@@ -178,14 +57,15 @@ fn demand_down(
     requires there { j < length live.now.state.stands }
     requires body { IsBody body.now }
     requires node { node < length body.now.graph.now.nodes }
-    ensures { DemandsDown live.now.state timeout j (offers_at body.now node) result }
+    ensures demands { DemandsDown live.now.state timeout j (offers_at body.now node) result.interests }
+    ensures own { result.own ≡ Unknown }
 {
-    let mut demand = Demand::Nothing;
+    let mut demand = NO_DEMAND;
     for level in 0..body.graph.level_count(node) {
         let edges = body.graph.level(node, level);
         demand = demand_on(live, body, j, timeout, edges, demand);
     }
-    demand
+    demand.with_unknown()
 }
 
 /// What a process may receive.
@@ -194,10 +74,10 @@ fn demand_of(live: &Live<'_, '_>, j: usize, timeout: bool, seat: Seat) -> Demand
     ensures { DemandsFor live.now.state timeout j (stand_of live.now.state.program seat) result }
 {
     let Some(body) = live.standing(seat) else {
-        return Demand::Nothing;
+        return NO_DEMAND;
     };
     match body.graph.only_level(seat.node) {
-        Some(edges) => demand_on(live, &body, j, timeout, edges, Demand::Nothing),
+        Some(edges) => demand_on(live, &body, j, timeout, edges, NO_DEMAND_YET),
         None => demand_down(live, &lent(&body), j, timeout, seat.node),
     }
 }
@@ -213,7 +93,7 @@ fn add_demands_behind(
     demands: &mut Vec<Demand>,
 ) -> Result<(), AllocError>
     requires order { asked < end }
-    requires within { end ≤ length live.now.state.stands }
+    requires older { end < length live.now.state.stands }
     requires there { StandThere live.now.state seat asked end }
     requires known { AreDemands live.now.state timeout demands.old.items }
     requires many { length demands.old.items ≡ asked + 1 }
@@ -301,7 +181,18 @@ pub(crate) fn may_receive(demands: &[Demand], j: usize, message: &Message<'_, '_
     ensures { result ≡ may_at (slice_get demands.now j) message.now }
 {
     match demand_at(demands, j) {
-        Some(demand) => demand.takes(message),
+        Some(demand) => demand.interests.takes(message),
         None => true,
     }
+}
+
+/// What is known of the own moves of process j.
+#[inline(always)]
+pub(crate) fn own_moves(demands: &[Demand], j: usize) -> OwnMoves
+    ensures { result ≡ own_at (slice_get demands.now j) }
+{
+    let Some(demand) = demand_at(demands, j) else {
+        return OwnMoves::Unknown;
+    };
+    demand.own
 }

@@ -4,6 +4,7 @@
 pub mod alone;
 pub mod common;
 pub mod d_step;
+pub mod demand;
 pub mod demands;
 pub mod executable;
 pub mod foremost;

@@ -4,7 +4,7 @@ ghost use Rattle.std.specs.Prelude.{◌≡◌, ◌<◌, ◌≤◌, ◌⊎◌, �
 ghost use Rattle.std.specs.Option.{option_copied};
 ghost use Rattle.run_search.specs.Listeners.{place_of, with_one, widened, spans_with, any_with, joined, LiesIn, HearsOn, AreHeard};
 
-use crate::demands::Demand;
+use crate::demand::{Demand, Interests};
 use profile::MOST_PROCESSES;
 use std::alloc::{AllocError, Global};
 
@@ -48,11 +48,11 @@ impl Span {
     }
 
     /// With this one too, where it may receive anything.
-    fn with_any(self, demand: Demand, j: usize) -> Span
-        ensures { result ≡ any_with self demand j }
+    fn with_any(self, interests: Interests, j: usize) -> Span
+        ensures { result ≡ any_with self interests j }
     {
-        match demand {
-            Demand::Anything => self.with_one(j),
+        match interests {
+            Interests::Anything => self.with_one(j),
             _ => self,
         }
     }
@@ -109,12 +109,12 @@ fn widen(spans: &mut Vec<Span>, number: i32, j: usize)
 }
 
 /// With this one too, where it waits on a channel or on two.
-fn add_listener(spans: &mut Vec<Span>, demand: Demand, j: usize)
-    ensures { spans.new.items ≡ spans_with spans.old.items demand j }
+fn add_listener(spans: &mut Vec<Span>, interests: Interests, j: usize)
+    ensures { spans.new.items ≡ spans_with spans.old.items interests j }
 {
-    match demand {
-        Demand::One(own) => widen(spans, own.number, j),
-        Demand::Two(own, other) => {
+    match interests {
+        Interests::One(own) => widen(spans, own.number, j),
+        Interests::Two(own, other) => {
             widen(spans, own.number, j);
             widen(spans, other.number, j);
         }
@@ -134,8 +134,8 @@ pub(crate) fn all_listeners(
     spans.resize(channels, NOBODY)?;
     let mut any = NOBODY;
     for j in 0..demands.len() {
-        add_listener(&mut spans, demands[j], j);
-        any = any.with_any(demands[j], j);
+        add_listener(&mut spans, demands[j].interests, j);
+        any = any.with_any(demands[j].interests, j);
     }
     Ok(Listeners { spans, any })
 }

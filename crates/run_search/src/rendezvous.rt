@@ -11,7 +11,8 @@ ghost use Rattle.run_search.specs.Paired.{pair_by, paired_on, paired_down, paire
 ghost use Rattle.run_search.specs.Demands.{may_at};
 ghost use Rattle.run_search.specs.Listeners.{AreKnown};
 
-use crate::demands::{Demand, may_receive};
+use crate::demand::Demand;
+use crate::demands::may_receive;
 use crate::listeners::Known;
 use crate::message::{Message, is_receive, is_received};
 use crate::tier::Tier;

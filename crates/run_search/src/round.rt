@@ -17,7 +17,7 @@ ghost use Rattle.run_search.specs.Round.{IsKnown, alone_at, round_pairs, round_s
 ghost use Rattle.promela_run.specs.declared.moves.Move.TheVariants.{Alone};
 
 use crate::alone::{can_be_alone, needs_nothing};
-use crate::demands::Demand;
+use crate::demand::Demand;
 use crate::executable::{can_be_taken, can_send, named};
 use crate::lent::lent;
 use crate::listeners::{Known, Span};
@@ -89,7 +89,7 @@ fn known<'r>(round: &Round<'r, '_, '_>) -> Known<'r>
 
 /// Whether nobody is heard on a channel, so that a message over it has no pairs.
 #[inline(always)]
-fn is_unheard(round: &Round<'_, '_, '_>, number: i32) -> bool
+pub(crate) fn is_unheard(round: &Round<'_, '_, '_>, number: i32) -> bool
     requires { IsKnown round.now }
     ensures { (offer : Pick) (m : Sent) → result ≡ true → number ≡ m.number → round_pairs round.now offer (Some m) ≡ [] }
 {

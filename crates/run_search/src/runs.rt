@@ -2,17 +2,54 @@
 
 #![tactic(auto, using(crate::proofs::Keeping::kept_on, crate::proofs::Keeping::kept_same, crate::proofs::Keeping::kept_push))]
 
-ghost use Rattle.std.specs.Prelude.{◌≡◌, ◌+◌, ◌++◌, ◌<◌, ◌≤◌, OnOk, IfOk, length, drop};
+ghost use Rattle.std.specs.Prelude.{◌≡◌, ◌+◌, ◌++◌, ◌<◌, ◌≤◌, true, [], Some, OnOk, IfOk, length, drop, slice_get};
 ghost use Rattle.run_search.specs.Kept.{Extends};
 ghost use Rattle.run_search.specs.Round.{IsKnown, round_at, round_behind, round_under};
 ghost use Rattle.run_search.specs.Together.{StandThere};
+ghost use Rattle.run_state.specs.Standing.{stand_of};
 
 use crate::common::{add_copies, is_common_seat, next_elsewhere};
+use crate::demand::OwnMoves;
+use crate::demands::own_moves;
 use crate::process::add_moves_at;
-use crate::round::Round;
+use crate::round::{Round, is_unheard};
 use promela_run::moves::Move;
 use run_state::seat::Seat;
 use std::alloc::AllocError;
+
+/// Whether it is known that a process has no move.
+#[inline(always)]
+fn has_no_move(round: &Round<'_, '_, '_>, process: usize, seat: Seat) -> bool
+    requires known { IsKnown round.now }
+    requires stands { let s = round.now.live.now.state in slice_get s.stands process ≡ Some (stand_of s.program seat) }
+    ensures { result ≡ true → round_at round.now process seat ≡ [] }
+{
+    match own_moves(round.demands, process) {
+        OwnMoves::Unknown => false,
+        OwnMoves::Nothing => true,
+        OwnMoves::Over(number) => is_unheard(round, number),
+    }
+}
+
+/// Adds the moves of a process: at once, where it is known to have none.
+#[inline(always)]
+fn add_moves_asked(
+    round: &Round<'_, '_, '_>,
+    process: usize,
+    seat: Seat,
+    moves: &mut Vec<Move>,
+) -> Result<(), AllocError>
+    requires known { IsKnown round.now }
+    requires there { process < length round.now.live.now.state.stands }
+    requires stands { let s = round.now.live.now.state in slice_get s.stands process ≡ Some (stand_of s.program seat) }
+    ensures added { OnOk result (moves.new.items ≡ moves.old.items ++ round_at round.now process seat) }
+    ensures kept { Extends moves.new.items moves.old.items }
+{
+    if has_no_move(round, process, seat) {
+        return Ok(());
+    }
+    add_moves_at(round, process, seat, moves)
+}
 
 /// Adds the moves of processes who stand at one seat, one after another.
 fn add_each(
@@ -30,7 +67,7 @@ fn add_each(
     ensures kept { Extends moves.new.items moves.old.items }
 {
     for process in first..end {
-        add_moves_at(round, process, seat, moves)?;
+        add_moves_asked(round, process, seat, moves)?;
     }
     Ok(())
 }
@@ -81,7 +118,7 @@ fn add_moves_of_run(
 {
     let seat = round.live.seats()[process];
     let begin = moves.len();
-    add_moves_at(round, process, seat, moves)?;
+    add_moves_asked(round, process, seat, moves)?;
     let end = next_elsewhere(round.live, process, seat);
     if process + 1 < end {
         add_moves_behind(round, process, end, seat, begin, moves)?;

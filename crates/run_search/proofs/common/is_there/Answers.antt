@@ -1,4 +1,4 @@
-use Rattle.std.proofs.Common.{Some, get_or, ap, ◌∙◌}
+use Rattle.std.proofs.Common.{Some, ap, ◌∙◌}
 use Rattle.run_state.specs.declared.seat.Seat.{Seat}
 use Rattle.run_state.specs.Standing.{stand_of}
 use Rattle.run_search.proofs.Together.{one_there, seat_there}

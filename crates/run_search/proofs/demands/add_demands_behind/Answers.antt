@@ -1,7 +1,7 @@
-use Rattle.std.proofs.Common.{rules, ◌≡◌, ◌++◌, ◌<◌, ◌≤◌, List, [], ◌∷◌, Some, length, length-append, sym, ap, subst, ◌∙◌, arith}
+use Rattle.std.proofs.Common.{rules, ◌≡◌, ◌++◌, ◌+◌, ◌<◌, ◌≤◌, List, [], ◌∷◌, Some, length, length-append, sym, ap, subst, ◌∙◌, arith}
 use Rattle.std.specs.Prelude.{slice_get}
 use Rattle.run_state.specs.Standing.{stand_of}
-use Rattle.run_search.specs.declared.demands.Demand.{Demand}
+use Rattle.run_search.specs.declared.demand.Demand.{Demand}
 use Rattle.run_search.specs.Demands.{AreDemands, DemandsFor}
 use Rattle.run_state.proofs.Finding.{held}
 use Rattle.run_search.proofs.Waiting.{demands_push}
@@ -25,9 +25,11 @@ loop-j-preserved c =
     let within : c.args.asked < length c.args.demands.now.items = omega (arith, c.requires.many) in
     let first : slice_get c.args.demands.now.items c.args.asked ≡ Some c.index-first.result.now =
     held c.args.demands.now.items c.args.asked c.index-first.result.now within ∙ ap Some (sym c.index-first.ensures) in
+    let older : c.args.asked + 1 < length s.stands = omega (arith, c.requires.order, c.requires.older) in
+    let younger : j + 1 < length s.stands = omega (arith, high, c.requires.older) in
     let known : DemandsFor s t c.args.asked y c.index-first.result.now = c.requires.known c.args.asked c.index-first.result.now y first (c.requires.there c.args.asked least order) in
     let waits : DemandsFor s t j y c.if-is_common.demand = elim c.if-is_common.branch [
-      | then-is_common w ↦ subst (λ (z : Demand). DemandsFor s t j y z) (sym w.demand-is) ((c.is_common_seat-is_common.ensures w.if-is_common.true).demands t c.args.asked j c.index-first.result.now known)
+      | then-is_common w ↦ subst (λ (z : Demand). DemandsFor s t j y z) (sym w.demand-is) ((c.is_common_seat-is_common.ensures w.if-is_common.true).demands t c.args.asked j c.index-first.result.now older younger known)
       | else-is_common w ↦ subst (λ (z : Demand). DemandsFor s t j y z) (sym w.demand-is) w.demand_of-demand.ensures
     ] in
     record {

@@ -1,6 +1,6 @@
 use Rattle.std.proofs.Common.{◌≡◌, ◌++◌, List, [], ◌∷◌, get_or, sym, subst}
 use Rattle.run_state.specs.declared.seat.Seat.{Seat}
-use Rattle.run_search.specs.declared.demands.Demand.{Demand}
+use Rattle.run_search.specs.declared.demand.Demand.{Demand}
 use Rattle.run_search.specs.Demands.{AreDemands}
 use Rattle.run_search.proofs.Waiting.{demands_push}
 use Rattle.run_search.proofs.Together.{only_there, seat_there}

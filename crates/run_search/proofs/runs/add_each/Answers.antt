@@ -10,8 +10,8 @@ loop-process-preserved c =
     let n = c.loop-process.process in
     let low : c.args.first ≤ n = search rules in
     let high : n < c.args.end = search rules in
-    let added : c.add_moves_at.new.moves.items ≡ c.loop-process.moves.items ++ round_at r n c.args.seat = search (rules, c.in_ok-add_moves_at.ensures) in
+    let added : c.add_moves_asked.new.moves.items ≡ c.loop-process.moves.items ++ round_at r n c.args.seat = search (rules, c.in_ok-add_moves_asked.ensures) in
     record {
-      same = one_behind r c.args.seat n c.add_moves_at.new.moves.items c.loop-process.moves.items _ (c.requires.there n low high) added c.loop-process.invariant.same;
-      kept = kept_on c.add_moves_at.new.moves.items c.loop-process.moves.items c.args.moves.now.items c.add_moves_at.ensures.kept c.loop-process.invariant.kept;
+      same = one_behind r c.args.seat n c.add_moves_asked.new.moves.items c.loop-process.moves.items _ (c.requires.there n low high) added c.loop-process.invariant.same;
+      kept = kept_on c.add_moves_asked.new.moves.items c.loop-process.moves.items c.args.moves.now.items c.add_moves_asked.ensures.kept c.loop-process.invariant.kept;
     }

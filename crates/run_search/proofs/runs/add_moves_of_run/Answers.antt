@@ -18,8 +18,8 @@ returns-in_ok-add_moves_behind-clause-added c =
     let d : Seat = record { sort = 0; node = 0 } in
     let x : Seat = get_or c.seats.result.now n d in
     let old : List Move = c.args.moves.now.items in
-    let mid : List Move = c.add_moves_at.new.moves.items in
-    let added : mid ≡ old ++ round_at r n x = search (rules, c.in_ok-add_moves_at.ensures) in
+    let mid : List Move = c.add_moves_asked.new.moves.items in
+    let added : mid ≡ old ++ round_at r n x = search (rules, c.in_ok-add_moves_asked.ensures) in
     let more : c.add_moves_behind.new.moves.items ++ round_behind r c.next_elsewhere-end.result ≡ mid ++ round_behind r (n + 1) = search (rules, c.in_ok-add_moves_behind.ensures) in
     more ∙ one_behind r x n mid old (old ++ round_behind r n) (seat_there r.live.now.state c.seats.result.now n d c.seats.ensures c.requires.there) added refl
 
@@ -30,13 +30,13 @@ returns-else-process-end-clause-added c =
     let d : Seat = record { sort = 0; node = 0 } in
     let x : Seat = get_or c.seats.result.now n d in
     let old : List Move = c.args.moves.now.items in
-    let mid : List Move = c.add_moves_at.new.moves.items in
-    let added : mid ≡ old ++ round_at r n x = search (rules, c.in_ok-add_moves_at.ensures) in
+    let mid : List Move = c.add_moves_asked.new.moves.items in
+    let added : mid ≡ old ++ round_at r n x = search (rules, c.in_ok-add_moves_asked.ensures) in
     let is : c.next_elsewhere-end.result ≡ n + 1 = omega (arith, c.if-process-end.false, c.next_elsewhere-end.ensures.behind) in
     ap (λ (k : ℕ). mid ++ round_behind r k) is
     ∙ one_behind r x n mid old (old ++ round_behind r n) (seat_there r.live.now.state c.seats.result.now n d c.seats.ensures c.requires.there) added refl
 
-pub add_moves_at-requires-clause-stands : goal.add_moves_at-requires-clause-stands
-add_moves_at-requires-clause-stands c =
+pub add_moves_asked-requires-clause-stands : goal.add_moves_asked-requires-clause-stands
+add_moves_asked-requires-clause-stands c =
     let d : Seat = record { sort = 0; node = 0 } in
     seat_there c.args.round.now.live.now.state c.seats.result.now c.args.process d c.seats.ensures c.requires.there

@@ -1,5 +1,5 @@
 use Rattle.std.proofs.Common.{◌≡◌, List, length, sym, ap, ◌∙◌, subst}
-use Rattle.run_search.specs.declared.demands.Demand.{Demand}
+use Rattle.run_search.specs.declared.demand.Demand.{Demand}
 use Rattle.run_search.specs.declared.listeners.Span.{Span}
 use Rattle.run_search.specs.Demands.{AreDemands}
 use Rattle.run_search.specs.Listeners.{AreHeard}
