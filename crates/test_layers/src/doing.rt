@@ -132,7 +132,7 @@ fn receive(
 }
 
 /// Takes a statement that stores or sends.
-fn stored(started: &mut Started, taker: Taker, action: &Action<'_>) -> Result<(), Stop> {
+fn stored(action: &Action<'_>, started: &mut Started, taker: Taker) -> Result<(), Stop> {
     match action {
         Action::Send(target, order, fields) => {
             send(started, taker, target, *order, fields.as_slice())
@@ -161,10 +161,10 @@ fn add_worth(value: &Expr, view: &Seen<'_>, out: &mut RowWriter) {
 
 /// Writes what a statement comes to. What it prints is added to the text.
 fn add_result(
+    action: &Action<'_>,
     constants: &[Token<'_>],
     started: &mut Started,
     taker: Taker,
-    action: &Action<'_>,
     text: &mut Vec<u8>,
     out: &mut RowWriter,
 ) {
@@ -179,15 +179,15 @@ fn add_result(
         Action::Else | Action::Run(_) | Action::AssignRun(_, _) => {
             return out.refuse("a statement that needs more than values");
         }
-        _ => stored(started, taker, action),
+        _ => stored(action, started, taker),
     };
     add_outcome(ended, out);
 }
 
 /// Writes what statements come to.
 fn add_results(
-    constants: &[Token<'_>],
     steps: &[Stmt<'_>],
+    constants: &[Token<'_>],
     started: &mut Started,
     taker: Taker,
     text: &mut Vec<u8>,
@@ -196,7 +196,7 @@ fn add_results(
     for stmt in steps {
         out.space();
         match &stmt.basic {
-            Basic::Plain(action) => add_result(constants, started, taker, action, text, out),
+            Basic::Plain(action) => add_result(action, constants, started, taker, text, out),
             _ => out.refuse("a statement that gives structure"),
         }
     }
@@ -248,8 +248,8 @@ fn take_all(
     match program.proctypes.as_slice() {
         [] => out.refuse("no proctype"),
         [first, ..] => add_results(
-            program.constants.as_slice(),
             first.body.steps.as_slice(),
+            program.constants.as_slice(),
             started,
             taker,
             &mut text,

@@ -18,10 +18,10 @@ use pml_program::program::{Basic, Seq, Stmt};
 use row_files::RowWriter;
 use std::alloc::{AllocError, Global};
 
-fn add_statement(out: &mut RowWriter, stmt: &Stmt<'_>) {
+fn add_statement(stmt: &Stmt<'_>, out: &mut RowWriter) {
     match &stmt.basic {
         Basic::DStep(_) => out.word("d_step"),
-        _ => add_spaced(out, stmt.tokens.as_slice()),
+        _ => add_spaced(stmt.tokens.as_slice(), out),
     }
 }
 
@@ -42,46 +42,46 @@ fn add_target(out: &mut RowWriter, edge: Edge) {
     out.word(";");
 }
 
-fn add_edge(out: &mut RowWriter, statements: &Statements<'_, '_>, level: usize, edge: Edge) {
+fn add_edge(statements: &Statements<'_, '_>, level: usize, edge: Edge, out: &mut RowWriter) {
     out.word(" ");
     out.number(level);
     out.word(" [");
     if let Some(stmt) = statements.get(edge.statement) {
-        add_statement(out, stmt);
+        add_statement(stmt, out);
     }
     add_target(out, edge);
 }
 
-fn add_level(out: &mut RowWriter, statements: &Statements<'_, '_>, level: usize, edges: &[Edge]) {
+fn add_level(statements: &Statements<'_, '_>, level: usize, edges: &[Edge], out: &mut RowWriter) {
     for edge in edges {
-        add_edge(out, statements, level, *edge);
+        add_edge(statements, level, *edge, out);
     }
 }
 
-fn add_node(out: &mut RowWriter, statements: &Statements<'_, '_>, graph: &Graph, node: usize) {
+fn add_node(statements: &Statements<'_, '_>, graph: &Graph, node: usize, out: &mut RowWriter) {
     if node >= graph.node_count() {
         return;
     }
     out.number(node);
     out.word(":");
     for level in 0..graph.level_count(node) {
-        add_level(out, statements, level, graph.level(node, level));
+        add_level(statements, level, graph.level(node, level), out);
     }
     out.word("\n");
 }
 
-fn add_nodes(out: &mut RowWriter, statements: &Statements<'_, '_>, graph: &Graph) {
+fn add_nodes(statements: &Statements<'_, '_>, graph: &Graph, out: &mut RowWriter) {
     out.word("start ");
     out.number(graph.start());
     out.word("\n");
     for node in 0..graph.node_count() {
-        add_node(out, statements, graph, node);
+        add_node(statements, graph, node, out);
     }
 }
 
-fn add_edges(alloc: Global, out: &mut RowWriter, body: &Seq<'_>, graph: &Graph) {
+fn add_edges(alloc: Global, body: &Seq<'_>, graph: &Graph, out: &mut RowWriter) {
     match all_statements(alloc, body) {
-        Ok(statements) => add_nodes(out, &statements, graph),
+        Ok(statements) => add_nodes(&statements, graph, out),
         Err(AllocError) => out.no_memory(),
     }
 }
@@ -178,6 +178,6 @@ pub fn add_graph(
         GraphView::Levels => add_all_levels(out, graph),
         GraphView::Texts => add_all_texts(out, graph),
         GraphView::Marks => add_all_marks(out, graph),
-        _ => add_edges(alloc, out, body, graph),
+        _ => add_edges(alloc, body, graph, out),
     }
 }

@@ -197,12 +197,12 @@ fn channel(out: &mut RowWriter, t: &Target, how: &str, left: &str) {
 }
 
 /// A token behind a word.
-fn named_by(out: &mut RowWriter, before: &str, t: &Token<'_>) {
+fn named_by(t: &Token<'_>, before: &str, out: &mut RowWriter) {
     out.word(before);
     out.bytes(t.text());
 }
 
-fn action(out: &mut RowWriter, a: &Action<'_>) {
+fn action(a: &Action<'_>, out: &mut RowWriter) {
     match a {
         Action::Else => out.word("else"),
         Action::Assign(t, v) => {
@@ -225,7 +225,7 @@ fn action(out: &mut RowWriter, a: &Action<'_>) {
             wants(out, ws);
         }
         Action::Printf(text, vs) => {
-            named_by(out, "printf ", text);
+            named_by(text, "printf ", out);
             values(out, vs);
         }
         Action::Printm(v) => between(out, "printm ", v, ""),
@@ -235,42 +235,42 @@ fn action(out: &mut RowWriter, a: &Action<'_>) {
 }
 
 #[cycle(statement)]
-fn basic(out: &mut RowWriter, b: &Basic<'_>) {
+fn basic(b: &Basic<'_>, out: &mut RowWriter) {
     match b {
-        Basic::Plain(a) => action(out, a),
-        Basic::Goto(l) => named_by(out, "goto ", l),
+        Basic::Plain(a) => action(a, out),
+        Basic::Goto(l) => named_by(l, "goto ", out),
         Basic::Break => out.word("break"),
-        Basic::If(options) => seqs(out, "if", options),
-        Basic::Do(options) => seqs(out, "do", options),
-        Basic::Block(s) => seq(out, "", s),
-        Basic::Atomic(s) => seq(out, "atomic ", s),
-        Basic::DStep(s) => seq(out, "d_step ", s),
+        Basic::If(options) => seqs(options, "if", out),
+        Basic::Do(options) => seqs(options, "do", out),
+        Basic::Block(s) => seq(s, "", out),
+        Basic::Atomic(s) => seq(s, "atomic ", out),
+        Basic::DStep(s) => seq(s, "d_step ", out),
         Basic::Unless(main, escape) => {
-            seq(out, "", main);
-            seq(out, " unless ", escape);
+            seq(main, "", out);
+            seq(escape, " unless ", out);
         }
     }
 }
 
 #[cycle(statement)]
-fn seqs(out: &mut RowWriter, before: &str, ss: &Items<Seq<'_>>) {
+fn seqs(ss: &Items<Seq<'_>>, before: &str, out: &mut RowWriter) {
     out.word(before);
     for s in ss.as_slice() {
-        seq(out, " ::", s);
+        seq(s, " ::", out);
     }
 }
 
 #[cycle(statement)]
-fn seq(out: &mut RowWriter, before: &str, s: &Seq<'_>) {
+fn seq(s: &Seq<'_>, before: &str, out: &mut RowWriter) {
     out.word(before);
     out.word("{\n");
     for one in s.steps.as_slice() {
-        stmt(out, one);
+        stmt(one, out);
     }
     out.word("}");
 }
 
-fn labels(out: &mut RowWriter, all: &Items<Token<'_>>) {
+fn labels(all: &Items<Token<'_>>, out: &mut RowWriter) {
     for label in all.as_slice() {
         out.bytes(label.text());
         out.word(": ");
@@ -278,9 +278,9 @@ fn labels(out: &mut RowWriter, all: &Items<Token<'_>>) {
 }
 
 #[cycle(statement)]
-fn stmt(out: &mut RowWriter, s: &Stmt<'_>) {
-    labels(out, &s.labels);
-    basic(out, &s.basic);
+fn stmt(s: &Stmt<'_>, out: &mut RowWriter) {
+    labels(&s.labels, out);
+    basic(&s.basic, out);
     out.word(";\n");
 }
 
@@ -314,30 +314,30 @@ fn initial(out: &mut RowWriter, i: &Initial) {
     }
 }
 
-fn slot(out: &mut RowWriter, s: &Slot<'_>) {
+fn slot(s: &Slot<'_>, out: &mut RowWriter) {
     form(out, s.form);
-    named_by(out, " ", &s.name);
+    named_by(&s.name, " ", out);
     out.word(if s.array { "[]" } else { "" });
     cells(out, s.offset, s.length, s.stride);
     initial(out, &s.initial);
     out.word("; ");
 }
 
-fn slots(out: &mut RowWriter, all: &Items<Slot<'_>>) {
+fn slots(all: &Items<Slot<'_>>, out: &mut RowWriter) {
     for one in all.as_slice() {
-        slot(out, one);
+        slot(one, out);
     }
 }
 
-fn fields(out: &mut RowWriter, f: &Fields<'_>) {
+fn fields(f: &Fields<'_>, out: &mut RowWriter) {
     out.word("typedef ");
     out.number(f.owner);
     out.word(" ");
-    slots(out, &f.fields);
+    slots(&f.fields, out);
     out.word("\n");
 }
 
-fn process(out: &mut RowWriter, p: &Proctype<'_>) {
+fn process(p: &Proctype<'_>, out: &mut RowWriter) {
     out.bytes(p.name.text());
     out.word(" ");
     out.number(p.owner);
@@ -346,14 +346,14 @@ fn process(out: &mut RowWriter, p: &Proctype<'_>) {
     out.word(" parameters ");
     out.number(p.parameters);
     out.word(" ");
-    slots(out, &p.variables);
-    seq(out, "", &p.body);
+    slots(&p.variables, out);
+    seq(&p.body, "", out);
     out.word(" to line ");
     out.count(p.end.line());
     out.word("\n");
 }
 
-fn constants(out: &mut RowWriter, names: &[Token<'_>]) {
+fn constants(names: &[Token<'_>], out: &mut RowWriter) {
     for name in names {
         out.bytes(name.text());
         out.word(" ");
@@ -361,23 +361,23 @@ fn constants(out: &mut RowWriter, names: &[Token<'_>]) {
     out.word("\n");
 }
 
-fn typedefs(out: &mut RowWriter, all: &[Fields<'_>]) {
+fn typedefs(all: &[Fields<'_>], out: &mut RowWriter) {
     for one in all {
-        fields(out, one);
+        fields(one, out);
     }
 }
 
-fn processes(out: &mut RowWriter, all: &[Proctype<'_>]) {
+fn processes(all: &[Proctype<'_>], out: &mut RowWriter) {
     for one in all {
-        process(out, one);
+        process(one, out);
     }
 }
 
 /// Writes a checked model, a line for the globals, one for the mtype names, and one for each typedef and proctype.
 pub fn add_model(program: &Program<'_>, out: &mut RowWriter) {
-    slots(out, &program.globals);
+    slots(&program.globals, out);
     out.word("\n");
-    constants(out, program.constants.as_slice());
-    typedefs(out, program.typedefs.as_slice());
-    processes(out, program.proctypes.as_slice());
+    constants(program.constants.as_slice(), out);
+    typedefs(program.typedefs.as_slice(), out);
+    processes(program.proctypes.as_slice(), out);
 }

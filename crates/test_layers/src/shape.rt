@@ -53,13 +53,13 @@ fn add_expr(globals: &[Slot<'_>], x: &Expr, out: &mut RowWriter) {
     }
 }
 
-fn add_statement(globals: &[Slot<'_>], stmt: &Stmt<'_>, out: &mut RowWriter) {
+fn add_statement<'p, 'a>(globals: &'p [Slot<'a>], stmt: &'p Stmt<'a>, out: &mut RowWriter) {
     if let Basic::Plain(Action::Holds(x)) = &stmt.basic {
         add_expr(globals, x, out);
     }
 }
 
-fn add_process(globals: &[Slot<'_>], process: &Proctype<'_>, out: &mut RowWriter) {
+fn add_process<'p, 'a>(globals: &'p [Slot<'a>], process: &'p Proctype<'a>, out: &mut RowWriter) {
     for stmt in process.body.steps.as_slice() {
         add_statement(globals, stmt, out);
     }

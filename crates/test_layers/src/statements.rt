@@ -8,7 +8,7 @@ use row_files::RowWriter;
 use sqlite_items::Items;
 
 /// Writes the texts of tokens with a space between them.
-pub fn add_spaced(out: &mut RowWriter, tokens: &[Token<'_>]) {
+pub fn add_spaced(tokens: &[Token<'_>], out: &mut RowWriter) {
     for (number, token) in tokens.iter().enumerate() {
         if number > 0 {
             out.word(" ");
@@ -23,53 +23,53 @@ fn first_of<'t, 'a>(tokens: &'t [Token<'a>]) -> &'t [Token<'a>] {
 }
 
 /// Writes the line of the first token and, in brackets, all of them.
-fn add_text(out: &mut RowWriter, tokens: &[Token<'_>]) {
+fn add_text(tokens: &[Token<'_>], out: &mut RowWriter) {
     if let [first, ..] = tokens {
         out.count(first.line());
     }
     out.word(" [");
-    add_spaced(out, tokens);
+    add_spaced(tokens, out);
     out.word("]\n");
 }
 
 #[cycle(statement)]
-fn stmt(out: &mut RowWriter, s: &Stmt<'_>) {
+fn stmt(s: &Stmt<'_>, out: &mut RowWriter) {
     let tokens = s.tokens.as_slice();
     match &s.basic {
-        Basic::Plain(_) | Basic::Goto(_) | Basic::Break => add_text(out, tokens),
+        Basic::Plain(_) | Basic::Goto(_) | Basic::Break => add_text(tokens, out),
         Basic::If(options) | Basic::Do(options) => {
-            add_text(out, first_of(tokens));
-            seqs(out, options);
+            add_text(first_of(tokens), out);
+            seqs(options, out);
         }
         Basic::DStep(inside) => {
-            add_text(out, first_of(tokens));
-            seq(out, inside);
+            add_text(first_of(tokens), out);
+            seq(inside, out);
         }
-        Basic::Block(inside) | Basic::Atomic(inside) => seq(out, inside),
+        Basic::Block(inside) | Basic::Atomic(inside) => seq(inside, out),
         Basic::Unless(main, escape) => {
-            seq(out, main);
-            seq(out, escape);
+            seq(main, out);
+            seq(escape, out);
         }
     }
 }
 
 #[cycle(statement)]
-fn seqs(out: &mut RowWriter, ss: &Items<Seq<'_>>) {
+fn seqs(ss: &Items<Seq<'_>>, out: &mut RowWriter) {
     for s in ss.as_slice() {
-        seq(out, s);
+        seq(s, out);
     }
 }
 
 #[cycle(statement)]
-fn seq(out: &mut RowWriter, s: &Seq<'_>) {
+fn seq(s: &Seq<'_>, out: &mut RowWriter) {
     for one in s.steps.as_slice() {
-        stmt(out, one);
+        stmt(one, out);
     }
 }
 
 /// Writes the texts of the statements of a checked model, in the order in which they stand.
 pub fn add_texts(program: &Program<'_>, out: &mut RowWriter) {
     for one in program.proctypes.as_slice() {
-        seq(out, &one.body);
+        seq(&one.body, out);
     }
 }

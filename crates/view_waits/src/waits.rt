@@ -133,8 +133,8 @@ fn in_control(holder: Option<usize>, moves: &[Move]) -> Option<usize>
 
 // Adds the offers of a level.
 fn add_level(
-    view: &View<'_>,
     body: &Body<'_, '_, '_>,
+    view: &View<'_>,
     first: Pick,
     edges: &[Edge],
     waits: &mut Vec<Wait>,
@@ -155,8 +155,8 @@ fn add_level(
 
 // Adds the offers of a node, level by level.
 fn add_offers(
-    view: &View<'_>,
     body: &Body<'_, '_, '_>,
+    view: &View<'_>,
     process: usize,
     node: usize,
     waits: &mut Vec<Wait>,
@@ -171,7 +171,7 @@ fn add_offers(
             level,
             place: 0,
         };
-        add_level(view, body, first, body.graph.level(node, level), waits)?;
+        add_level(body, view, first, body.graph.level(node, level), waits)?;
     }
     Ok(())
 }
@@ -205,7 +205,7 @@ fn add_standing(
             Because::Younger(live.process_count().saturating_sub(1)),
             waits,
         ),
-        Some(body) => add_offers(&view, &body, process, seat.node, waits),
+        Some(body) => add_offers(&body, &view, process, seat.node, waits),
     }
 }
 

@@ -17,7 +17,6 @@ use promela_process::sought::Sought;
 use promela_run::moves::Pick;
 use run_search::executable::named;
 use run_search::picked::picked;
-use run_state::live::Live;
 use view_cells::cells::{add_cell, add_value};
 use view_cells::channels::{add_channel_word, add_message, channel_at};
 use view_cells::picture::Picture;
@@ -315,20 +314,14 @@ fn add_basic(
     }
 }
 
-fn add_pick(
-    picture: &Picture<'_, '_, '_>,
-    live: &Live<'_, '_>,
-    pick: Pick,
-    timeout: bool,
-    out: &mut Writer,
-)
+fn add_pick(picture: &Picture<'_, '_, '_>, pick: Pick, timeout: bool, out: &mut Writer)
     ensures { Stays out.old out.new }
 {
-    if pick.process >= live.process_count() {
+    if pick.process >= picture.process_count() {
         return;
     }
-    let view = live.view(pick.process, timeout);
-    if let Some(offer) = picked(live, pick) {
+    let view = picture.live().view(pick.process, timeout);
+    if let Some(offer) = picked(picture.live(), pick) {
         add_basic(picture, &view, offer.body.basic(*offer.edge), out);
     }
 }
@@ -347,7 +340,7 @@ pub fn add_words(picture: &Picture<'_, '_, '_>, wait: &Wait, out: &mut Writer)
             add_process(picture, youngest, out);
             out.add(b" has ended");
         }
-        (_, Some(pick)) => add_pick(picture, picture.live(), pick, wait.timeout, out),
+        (_, Some(pick)) => add_pick(picture, pick, wait.timeout, out),
         _ => {}
     }
 }
