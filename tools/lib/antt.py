@@ -1,5 +1,5 @@
-"""Reads files of definitions (*.antt): what each defines, with its comment and its lines, and of each name in it what it names. A line that is no
-definition, a sign that is none and a name that nothing brings in end the reading with the file and the line (`Unread`)."""
+"""Reads files of definitions (*.antt): what each defines, with its comment and its lines, and what each name in it means. If a line is no definition, a
+sign is none, or nothing brings a name in, the reading ends with the file and the line (`Unread`)."""
 import re
 
 IMPORT = re.compile(r"^use ([A-Za-z0-9_.-]+?)(?:\.\{([^{}]*)\}| as ([A-Za-z_-]+))?$")

@@ -1,4 +1,4 @@
-"""Models with names that are declared in several blocks and by several calls, as Spin takes them: no name is declared where another of it is in force."""
+"""Models with names that several blocks and several calls declare, as Spin takes them: no name is declared while another declaration of it is in force."""
 
 
 class Blocks:

@@ -1,4 +1,4 @@
-"""States of a run as the fold of its lines of JSON (docs/VIEW.md), and models to walk in: a second reading, in which nothing of the programs has a part."""
+"""States of a run as the fold of its lines of JSON (docs/VIEW.md), and models to walk in: a second reading, which uses nothing of the programs."""
 import glob
 import json
 import os

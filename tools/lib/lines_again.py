@@ -1,10 +1,10 @@
-"""The lines of JSON of a run, by a second implementation of the language: a reading of docs/LANGUAGE.md, docs/FORMATS.md and docs/VIEW.md in which nothing
-of the programs has a part. It knows what the models of examples/view have and a little more, and ends at anything else (`Unknown`).
+"""The lines of JSON of a run, by a second implementation of the language: a reading of docs/LANGUAGE.md, docs/FORMATS.md and docs/VIEW.md that uses nothing
+of the programs. It knows what the models of examples/view have and a little more, and ends at anything else (`Unknown`).
 
-    python3 tools/lib/lines_again.py MODEL CHOICES..    prints the lines of a run of these choices, each of several moves, up to its end or to where they are used up
+    python3 tools/lib/lines_again.py MODEL CHOICES..    prints the lines of a run with these answers to its questions, up to its end or to the end of the answers
 
-A line has the keys up to `open`; what stands behind them in docs/VIEW.md is that of `view_told.py`. `again` gives the lines of a kept run from its model
-and the choices in its own lines."""
+A line has the keys up to `open`; `view_told.py` has the further keys of docs/VIEW.md. `again` gives the lines of a kept run from its model and the choices
+in its own lines. tools/try-view makes each examples/view/NAME.jsonl again by it."""
 import json
 import re
 import sys

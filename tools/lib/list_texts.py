@@ -1,4 +1,4 @@
-"""Models by chance with lists of initialisers and with labels in inlines: one process, which prints what it does."""
+"""Random models with lists of initialisers and with labels in inlines: one process, which prints what it does."""
 
 NAMES = ["again", "out", "next", "last"]
 

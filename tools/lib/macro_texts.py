@@ -1,4 +1,4 @@
-"""Texts with macros by chance, and a text's tokens as a preprocessor has them, to be compared with those of cpp."""
+"""Random texts with macros, and a text's tokens as a preprocessor has them, for a comparison with cpp."""
 import re
 
 TOKEN = re.compile(r'/\*.*?\*/|//[^\n]*|"(?:\\.|[^"\\\n])*"|\'(?:\\.|[^\'\\\n])*\'|[A-Za-z_]\w*|\d\w*|->|--|::|\.\.|\+\+|<<|>>|[=!<>]=|&&|\|\||!!|\?\?|##|"[^\n]*|[^\s\w]|\s+', re.S)

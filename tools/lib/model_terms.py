@@ -1,4 +1,4 @@
-"""Models as the terms of crates/worked_runs, and what stands around them in a file of theorems."""
+"""Models as the terms of crates/worked_runs, and what is around them in a file of theorems."""
 import os
 import re
 import subprocess

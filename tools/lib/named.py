@@ -1,6 +1,6 @@
-"""A second reading of the names of a model that is played, by tokens alone: where each stands, and where it is declared.
+"""A second reading of the names of a model that is played, by tokens alone: where each is, and where it is declared.
 
-Columns of a place are bytes of a text of ASCII. Inlines are replaced with their tokens where they stand, so a token of an inline's body may mean several names."""
+Columns of a place are bytes of a text of ASCII. The tokens of an inline replace its calls and keep their places, so a token of an inline's body may mean several names."""
 import collections
 import re
 

@@ -1,4 +1,4 @@
-"""Models by chance whose messages are records: one process, which prints what it does."""
+"""Random models whose messages are records: one process, which prints what it does."""
 
 TYPES = ["bit", "bool", "byte", "short", "int", "mtype"]
 

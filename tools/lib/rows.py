@@ -1,6 +1,6 @@
-"""The rows of crates/test_sessions, read from its files: each a model with flags and choices, and what stands behind its session. docs/ROWS.md
-has their form. 'python3 tools/lib/rows.py' prints how many rows each file has, as crates/test_sessions/stdout has to say, and 'python3 tools/lib/rows.py
-test_layers' how many rows of each layer there are, as crates/test_layers/stdout has to say."""
+"""Reads the rows of crates/test_sessions from its files: each a model with flags and choices, and what its session answers. docs/ROWS.md has their form.
+'python3 tools/lib/rows.py' prints how many rows each file has, as crates/test_sessions/stdout has to say. 'python3 tools/lib/rows.py test_layers' prints
+how many rows of each layer there are, as crates/test_layers/stdout has to say."""
 import collections, os, re, sys
 
 Row = collections.namedtuple("Row", "name flags model choices read output status record")

@@ -1,4 +1,4 @@
-"""The worked runs of crates/worked_runs, read from its proofs: each with its model's tokens, options, choices, and what its theorem states."""
+"""Reads the worked runs of crates/worked_runs from its proofs: each with its model's tokens, options, choices, and what its theorem states."""
 import collections
 import glob
 import os

@@ -1,5 +1,5 @@
-"""The chart, the page and the transcript of a run, made of its lines of JSON: a second reading of docs/VIEW.md and docs/FORMATS.md, in which nothing of the
-programs has a part."""
+"""The chart, the page and the transcript of a run, made of its lines of JSON: a second reading of docs/VIEW.md and docs/FORMATS.md, which uses nothing of the
+programs."""
 import json
 import os
 import re

@@ -1,4 +1,4 @@
-"""Conditions of a session by chance, each as its text and as what a second reading makes of a state, which is the fold of lines of JSON."""
+"""Random conditions of a session, each as its text and as what a second reading makes of a state, which is the fold of lines of JSON."""
 
 
 class NotSo(Exception):

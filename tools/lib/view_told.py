@@ -1,5 +1,5 @@
-"""What lines of JSON tell beside the steps: moves as objects, where a state stood before, what led to an end that is not valid. A second reading of docs/VIEW.md,
-made of the other keys of the lines, in which nothing of the programs has a part."""
+"""What lines of JSON have beside the steps: moves as objects, where a state came up before, what led to an invalid end. It is a second reading of docs/VIEW.md,
+made of the other keys of the lines, and uses nothing of the programs."""
 import re
 from lib.view_again import move_text
 
