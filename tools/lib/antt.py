@@ -10,7 +10,7 @@ HEAD = re.compile(r"^( *)%s([^\s:(]+) :(?= |$)" % WORDS)
 FIXITY = re.compile(r"^( *)infix[lr]? \d+ (\S+)$")
 CASE = re.compile(r"^( *)%s([^\s:(]+(?: [^\s:(]+)*) :(?= |$)" % WORDS)
 SECTION = re.compile(r"^ *-- ---- (.*)$")
-TOKEN = re.compile(r"""(?P<space>\s+)|(?P<comment>--(?=\s|$)[^\n]*)|(?P<string>"(?:[^"\\\n]|\\.)*")|(?P<number>\d+)|(?P<name>[A-Za-z_][A-Za-z0-9_'ℤ-]*|[ℕℤ⊥⊤])
+TOKEN = re.compile(r"""(?P<space>\s+)|(?P<comment>--(?=\s|$)[^\n]*)|(?P<string>"(?:[^"\\\n]|\\.)*")|(?P<number>0x[0-9a-f]+|\d+)|(?P<name>[A-Za-z_][A-Za-z0-9_'ℤ-]*|[ℕℤ⊥⊤])
     |(?P<open>[(\[{])|(?P<close>[)\]}])|(?P<dot>\.)|(?P<sign>λ|[^\s\w()\[\]{}.,;"]+ℤ?|[,;])""", re.X)
 KEYWORDS = {"abbrev", "unfoldable", "pub", "data", "record", "where", "mutual", "module", "let", "in", "if", "then", "else", "elim", "as", "Type", "infixl",
             "infixr", "unfolding", "_", "refl", "opaque"}

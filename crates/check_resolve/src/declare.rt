@@ -34,7 +34,7 @@ pub fn natural(constant: Constant) -> u32
 }
 
 /// Declares a name.
-pub fn declare<'a>(owner: usize, what: &What<'a>, names: &mut Names<'a>) -> Result<(), AllocError>
+pub fn declare<'a>(names: &mut Names<'a>, owner: usize, what: &What<'a>) -> Result<(), AllocError>
     requires { IsTotalled names.old.table names.old.totals names.old.constants }
     ensures table { OnOk result (names.new.table ≡ after names.old.table owner what.now) }
     ensures totalled { OnOk result (IsTotalled names.new.table names.new.totals names.new.constants) }
@@ -142,10 +142,10 @@ pub struct Holder {
 
 fn variable<'a>(
     alloc: Global,
+    names: &mut Names<'a>,
     all: &Table,
     holder: Holder,
     v: &Variable<'a>,
-    names: &mut Names<'a>,
     slots: &mut Items<Slot<'a>>,
 ) -> Result<(), AllocError>
     requires { IsTotalled names.old.table names.old.totals names.old.constants }
@@ -165,7 +165,7 @@ fn variable<'a>(
         owner: user,
     };
     let initial = initial(alloc, &v.initial, within)?;
-    declare(holder.number, &declares(holder.role, v), names)?;
+    declare(names, holder.number, &declares(holder.role, v))?;
     let found = names.table.find(holder.number, v.name.text());
     slots.push(slot(v.name.copied(), initial, found))
 }
@@ -173,10 +173,10 @@ fn variable<'a>(
 /// Declares variables, parameters or fields, which are `holder`'s, and adds them.
 pub fn variables<'a>(
     alloc: Global,
+    names: &mut Names<'a>,
     all: &Table,
     holder: Holder,
     vs: &[Variable<'a>],
-    names: &mut Names<'a>,
     slots: &mut Items<Slot<'a>>,
 ) -> Result<(), AllocError>
     requires { IsTotalled names.old.table names.old.totals names.old.constants }
@@ -184,7 +184,7 @@ pub fn variables<'a>(
     ensures totalled { OnOk result (IsTotalled names.new.table names.new.totals names.new.constants) }
 {
     for v in vs {
-        variable(alloc, all, holder, v, names, slots)?;
+        variable(alloc, names, all, holder, v, slots)?;
     }
     Ok(())
 }

@@ -32,10 +32,10 @@ fn count(starts: &Starts) -> u32
     }
 }
 
-fn constants<'a>(
-    list: &[Token<'a>],
-    names: &mut Names<'a>,
-    tokens: &mut Items<Token<'a>>,
+fn constants<'w, 'a>(
+    list: &'w [Token<'a>],
+    names: &'w mut Names<'a>,
+    tokens: &'w mut Items<Token<'a>>,
 ) -> Result<(), AllocError>
     requires { IsTotalled names.old.table names.old.totals names.old.constants }
     ensures tokens { OnOk result (tokens.new ≡ tokens.old ++ reverse list.now) }
@@ -45,26 +45,26 @@ fn constants<'a>(
     for i in (0..list.len()).rev() {
         let name = list[i].copied();
         let what = What::Declares(name.copied(), Declared::Constant);
-        declare(0, &what, names)?;
+        declare(names, 0, &what)?;
         tokens.push(name)?;
     }
     Ok(())
 }
 
-fn process<'a>(
+fn process<'w, 'a>(
     alloc: Global,
+    names: &'w mut Names<'a>,
     all: &Table,
     owner: usize,
-    p: &TreeProctype<'a>,
-    names: &mut Names<'a>,
-    program: &mut Program<'a>,
+    p: &'w TreeProctype<'a>,
+    program: &'w mut Program<'a>,
 ) -> Result<(), AllocError>
     requires { IsTotalled names.old.table names.old.totals names.old.constants }
     ensures made { OnOk result (made program.new names.new.table ≡ with_process all.now owner p.now (made program.old names.old.table)) }
     ensures totalled { OnOk result (IsTotalled names.new.table names.new.totals names.new.constants) }
 {
     let declared = Declared::Proctype(program.proctypes.len(), p.parameters.len());
-    declare(0, &What::Declares(p.name.copied(), declared), names)?;
+    declare(names, 0, &What::Declares(p.name.copied(), declared))?;
     let mut slots = Items::new(alloc);
     let holder = Holder {
         role: Role::Variable,
@@ -72,10 +72,10 @@ fn process<'a>(
     };
     variables(
         alloc,
+        names,
         all,
         holder,
         p.parameters.as_slice(),
-        names,
         &mut slots,
     )?;
     let body = seq(alloc, &p.body, Whose { all, owner }, names, &mut slots)?;
@@ -90,13 +90,13 @@ fn process<'a>(
     })
 }
 
-fn typedef<'a>(
+fn typedef<'w, 'a>(
     alloc: Global,
+    names: &'w mut Names<'a>,
     whose: Whose<'_, '_>,
-    name: &Token<'a>,
-    vs: &[Variable<'a>],
-    names: &mut Names<'a>,
-    program: &mut Program<'a>,
+    name: &'w Token<'a>,
+    vs: &'w [Variable<'a>],
+    program: &'w mut Program<'a>,
 ) -> Result<(), AllocError>
     requires { IsTotalled names.old.table names.old.totals names.old.constants }
     ensures made { OnOk result (made program.new names.new.table
@@ -108,22 +108,22 @@ fn typedef<'a>(
         role: Role::Field,
         number: whose.owner,
     };
-    variables(alloc, whose.all, holder, vs, names, &mut fields)?;
+    variables(alloc, names, whose.all, holder, vs, &mut fields)?;
     let what = What::Declares(name.copied(), Declared::Typedef(whose.owner));
-    declare(0, &what, names)?;
+    declare(names, 0, &what)?;
     program.typedefs.push(Fields {
         owner: whose.owner,
         fields,
     })
 }
 
-fn unit<'a>(
+fn unit<'w, 'a>(
     alloc: Global,
+    names: &'w mut Names<'a>,
     all: &Table,
     number: usize,
-    u: &Unit<'a>,
-    names: &mut Names<'a>,
-    program: &mut Program<'a>,
+    u: &'w Unit<'a>,
+    program: &'w mut Program<'a>,
 ) -> Result<(), AllocError>
     requires { IsTotalled names.old.table names.old.totals names.old.constants }
     ensures made { OnOk result (made program.new names.new.table ≡ with_unit all.now number u.now (made program.old names.old.table)) }
@@ -137,19 +137,19 @@ fn unit<'a>(
             };
             variables(
                 alloc,
+                names,
                 all,
                 holder,
                 vs.as_slice(),
-                names,
                 &mut program.globals,
             )
         }
         Unit::Constants(list) => constants(list.as_slice(), names, &mut program.constants),
         Unit::Typedef(name, vs) => {
             let whose = Whose { all, owner: number };
-            typedef(alloc, whose, name, vs.as_slice(), names, program)
+            typedef(alloc, names, whose, name, vs.as_slice(), program)
         }
-        Unit::Proctype(p) => process(alloc, all, number, p, names, program),
+        Unit::Proctype(p) => process(alloc, names, all, number, p, program),
     }
 }
 
@@ -167,7 +167,7 @@ pub fn number<'a>(alloc: Global, tree: &Tree<'a>, all: &Table) -> Result<Program
         proctypes: Items::new(alloc),
     };
     for (i, one) in tree.units.as_slice().iter().enumerate() {
-        unit(alloc, all, i + 1, one, &mut names, &mut program)?;
+        unit(alloc, &mut names, all, i + 1, one, &mut program)?;
     }
     Ok(program)
 }

@@ -33,10 +33,10 @@ fn copied<'a>(alloc: Global, labels: &[Token<'a>]) -> Result<Items<Token<'a>>, A
 /// Adds a statement. It stands by itself, as those below do, so that a level of nesting takes little of the stack.
 #[inline(never)]
 fn add<'a>(
+    steps: &mut Items<Stmt<'a>>,
     labels: Items<Token<'a>>,
     basic: Basic<'a>,
     tokens: Tokens<'a>,
-    steps: &mut Items<Stmt<'a>>,
 ) -> Result<(), AllocError>
     ensures { OnOk result (steps.new ≡ adds steps.old labels.entry basic.entry tokens.entry) }
 {
@@ -49,122 +49,122 @@ fn add<'a>(
 
 /// Adds a statement that gives no structure.
 #[inline(never)]
-fn add_plain<'a>(
+fn add_plain<'w, 'a>(
+    steps: &'w mut Items<Stmt<'a>>,
     alloc: Global,
     labels: Items<Token<'a>>,
-    a: &TreeAction<'a>,
+    a: &'w TreeAction<'a>,
     within: Scope<'_, '_, '_>,
     tokens: Tokens<'a>,
-    steps: &mut Items<Stmt<'a>>,
 ) -> Result<(), AllocError>
     ensures { OnOk result (steps.new ≡ adds steps.old labels.entry (Plain (action a.now (scope_of within.entry))) tokens.entry) }
 {
     let x = action(alloc, a, within)?;
-    add(labels, Basic::Plain(x), tokens, steps)
+    add(steps, labels, Basic::Plain(x), tokens)
 }
 
 /// Adds a jump to a label.
 #[inline(never)]
 fn add_goto<'a>(
+    steps: &mut Items<Stmt<'a>>,
     labels: Items<Token<'a>>,
     label: &Token<'a>,
     tokens: Tokens<'a>,
-    steps: &mut Items<Stmt<'a>>,
 ) -> Result<(), AllocError>
     ensures { OnOk result (steps.new ≡ adds steps.old labels.entry (Goto label.now) tokens.entry) }
 {
-    add(labels, Basic::Goto(label.copied()), tokens, steps)
+    add(steps, labels, Basic::Goto(label.copied()), tokens)
 }
 
 /// Adds a `break`.
 #[inline(never)]
 fn add_break<'a>(
+    steps: &mut Items<Stmt<'a>>,
     labels: Items<Token<'a>>,
     tokens: Tokens<'a>,
-    steps: &mut Items<Stmt<'a>>,
 ) -> Result<(), AllocError>
     ensures { OnOk result (steps.new ≡ adds steps.old labels.entry Break tokens.entry) }
 {
-    add(labels, Basic::Break, tokens, steps)
+    add(steps, labels, Basic::Break, tokens)
 }
 
 /// Adds an `if`.
 #[inline(never)]
 fn add_if<'a>(
+    steps: &mut Items<Stmt<'a>>,
     labels: Items<Token<'a>>,
     options: Items<Seq<'a>>,
     tokens: Tokens<'a>,
-    steps: &mut Items<Stmt<'a>>,
 ) -> Result<(), AllocError>
     ensures { OnOk result (steps.new ≡ adds steps.old labels.entry (If options.entry) tokens.entry) }
 {
-    add(labels, Basic::If(options), tokens, steps)
+    add(steps, labels, Basic::If(options), tokens)
 }
 
 /// Adds a `do`.
 #[inline(never)]
 fn add_do<'a>(
+    steps: &mut Items<Stmt<'a>>,
     labels: Items<Token<'a>>,
     options: Items<Seq<'a>>,
     tokens: Tokens<'a>,
-    steps: &mut Items<Stmt<'a>>,
 ) -> Result<(), AllocError>
     ensures { OnOk result (steps.new ≡ adds steps.old labels.entry (Do options.entry) tokens.entry) }
 {
-    add(labels, Basic::Do(options), tokens, steps)
+    add(steps, labels, Basic::Do(options), tokens)
 }
 
 /// Adds a block.
 #[inline(never)]
 fn add_block<'a>(
+    steps: &mut Items<Stmt<'a>>,
     labels: Items<Token<'a>>,
     inside: Seq<'a>,
     tokens: Tokens<'a>,
-    steps: &mut Items<Stmt<'a>>,
 ) -> Result<(), AllocError>
     ensures { OnOk result (steps.new ≡ adds steps.old labels.entry (Block inside.entry) tokens.entry) }
 {
-    add(labels, Basic::Block(inside), tokens, steps)
+    add(steps, labels, Basic::Block(inside), tokens)
 }
 
 /// Adds an `atomic`.
 #[inline(never)]
 fn add_atomic<'a>(
+    steps: &mut Items<Stmt<'a>>,
     labels: Items<Token<'a>>,
     inside: Seq<'a>,
     tokens: Tokens<'a>,
-    steps: &mut Items<Stmt<'a>>,
 ) -> Result<(), AllocError>
     ensures { OnOk result (steps.new ≡ adds steps.old labels.entry (Atomic inside.entry) tokens.entry) }
 {
-    add(labels, Basic::Atomic(inside), tokens, steps)
+    add(steps, labels, Basic::Atomic(inside), tokens)
 }
 
 /// Adds a `d_step`.
 #[inline(never)]
 fn add_d_step<'a>(
+    steps: &mut Items<Stmt<'a>>,
     labels: Items<Token<'a>>,
     inside: Seq<'a>,
     tokens: Tokens<'a>,
-    steps: &mut Items<Stmt<'a>>,
 ) -> Result<(), AllocError>
     ensures { OnOk result (steps.new ≡ adds steps.old labels.entry (DStep inside.entry) tokens.entry) }
 {
-    add(labels, Basic::DStep(inside), tokens, steps)
+    add(steps, labels, Basic::DStep(inside), tokens)
 }
 
 /// Adds an `unless`.
 #[inline(never)]
 fn add_unless<'a>(
+    steps: &mut Items<Stmt<'a>>,
     labels: Items<Token<'a>>,
     main: Seq<'a>,
     escape: Seq<'a>,
     tokens: Tokens<'a>,
-    steps: &mut Items<Stmt<'a>>,
 ) -> Result<(), AllocError>
     ensures { OnOk result (steps.new ≡ adds steps.old labels.entry (Unless main.entry escape.entry) tokens.entry) }
 {
-    add(labels, Basic::Unless(main, escape), tokens, steps)
+    add(steps, labels, Basic::Unless(main, escape), tokens)
 }
 
 /// Declares the variables of a body.
@@ -184,7 +184,7 @@ fn declared<'a>(
         role: Role::Variable,
         number: whose.owner,
     };
-    variables(alloc, whose.all, holder, vs, names, slots)
+    variables(alloc, names, whose.all, holder, vs, slots)
 }
 
 #[cycle(statement)]
@@ -208,47 +208,47 @@ fn item<'a>(
         TreeBasic::Exclusive(_) => Ok(()),
         TreeBasic::Plain(a) => {
             add_plain(
+                steps,
                 alloc,
                 labels,
                 a.get(),
                 whose.within(&names.table),
                 tokens,
-                steps,
             )
         }
-        TreeBasic::Goto(l) => add_goto(labels, l, tokens, steps),
-        TreeBasic::Break => add_break(labels, tokens, steps),
+        TreeBasic::Goto(l) => add_goto(steps, labels, l, tokens),
+        TreeBasic::Break => add_break(steps, labels, tokens),
         TreeBasic::If(options) => {
             let xs = seqs(alloc, options.as_slice(), whose, names, slots)?;
-            add_if(labels, xs, tokens, steps)
+            add_if(steps, labels, xs, tokens)
         }
         TreeBasic::Do(options) => {
             let xs = seqs(alloc, options.as_slice(), whose, names, slots)?;
-            add_do(labels, xs, tokens, steps)
+            add_do(steps, labels, xs, tokens)
         }
         TreeBasic::Block(s) => {
             let x = seq(alloc, s, whose, names, slots)?;
-            add_block(labels, x, tokens, steps)
+            add_block(steps, labels, x, tokens)
         }
         TreeBasic::Atomic(s) => {
             let x = seq(alloc, s, whose, names, slots)?;
-            add_atomic(labels, x, tokens, steps)
+            add_atomic(steps, labels, x, tokens)
         }
         TreeBasic::DStep(s) => {
             let x = seq(alloc, s, whose, names, slots)?;
-            add_d_step(labels, x, tokens, steps)
+            add_d_step(steps, labels, x, tokens)
         }
         TreeBasic::Unless(main, escape) => {
             let x = seq(alloc, main, whose, names, slots)?;
             let y = seq(alloc, escape, whose, names, slots)?;
-            add_unless(labels, x, y, tokens, steps)
+            add_unless(steps, labels, x, y, tokens)
         }
     }
 }
 
 /// Adds an option.
 #[inline(never)]
-fn add_option<'a>(option: Seq<'a>, options: &mut Items<Seq<'a>>) -> Result<(), AllocError>
+fn add_option<'a>(options: &mut Items<Seq<'a>>, option: Seq<'a>) -> Result<(), AllocError>
     ensures { OnOk result (options.new ≡ options.old ++ option.entry ∷ []) }
 {
     options.push(option)
@@ -271,7 +271,7 @@ fn seqs<'a>(
     let mut seqs = room_for(alloc, ss.len())?;
     for s in ss {
         let x = seq(alloc, s, whose, names, slots)?;
-        add_option(x, &mut seqs)?;
+        add_option(&mut seqs, x)?;
     }
     Ok(seqs)
 }

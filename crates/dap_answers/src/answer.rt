@@ -20,7 +20,6 @@ use dap_messages::moves::choice_of;
 use dap_messages::processes::{ModelSource, process_of};
 use serde_json::{Value, json};
 use std::alloc::{AllocError, Global};
-use view_session::seen::picture_of;
 use view_walk::walk::Walk;
 
 // An empty body.
@@ -39,9 +38,9 @@ fn show(
     ensures goes_on { GoesOn session.old session.new }
     ensures replied { OnOk result (session.old.out < session.new.out) }
 {
-    let picture = picture_of(walk.world());
+    let live = walk.world().live();
     let alloc = session.allocator();
-    match shown(alloc, &picture, source, session.stops, command, request)? {
+    match shown(alloc, live, source, session.stops, command, request)? {
         Some(body) => session.out.reply(request, body),
         None => session.out.refuse(request, "no such process"),
     }
@@ -60,15 +59,15 @@ fn set(
 {
     let alloc = session.allocator();
     let body = match command {
-        DebugRequest::SetBreakpoints => set_breaks(walk, session, source, request)?,
+        DebugRequest::SetBreakpoints => set_breaks(walk, session, source, request),
         DebugRequest::SetDataBreakpoints => {
-            let picture = picture_of(walk.world());
-            set_watched(alloc, &picture, request, &mut session.watched)?
+            let live = walk.world().live();
+            set_watched(alloc, live, request, &mut session.watched)
         }
-        DebugRequest::ExceptionInfo => info_of(session)?,
-        _ => nothing(alloc)?,
+        DebugRequest::ExceptionInfo => info_of(session),
+        _ => nothing(alloc),
     };
-    session.out.reply(request, body)
+    session.out.reply(request, body?)
 }
 
 // Answers an expression, or a line of the console.

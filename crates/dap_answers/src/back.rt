@@ -9,7 +9,6 @@ use crate::debugging::ClientSession;
 use crate::stop::{SessionStop, stop_here, tell_stop};
 use dap_messages::processes::lines_of;
 use std::alloc::AllocError;
-use view_session::seen::picture_of;
 use view_text::writer::Writer;
 use view_walk::walk::Walk;
 use walk_answers::going::{back, go_to};
@@ -74,11 +73,11 @@ fn met_at(
 ) -> Result<Option<Met>, AllocError>
     ensures goes_on { GoesOn session.old session.new }
 {
-    let picture = picture_of(walk.world());
-    let now = lines_of(session.allocator(), &picture)?;
+    let live = walk.world().live();
+    let now = lines_of(session.allocator(), live)?;
     let before = look.lines.as_slice();
     let breaks = session.breaks.as_mut_slice();
-    let found = hit(&picture, breaks, before, now.as_slice(), &mut look.scratch)?;
+    let found = hit(live, breaks, before, now.as_slice(), &mut look.scratch)?;
     look.lines = now;
     let step = walk.at();
     if let Some(process) = found {
@@ -110,7 +109,7 @@ fn last_met(
     go_to(walk, 0)?;
     let alloc = session.allocator();
     let mut look = Look {
-        lines: lines_of(alloc, &picture_of(walk.world()))?,
+        lines: lines_of(alloc, walk.world().live())?,
         scratch: Writer::new(alloc),
     };
     let mut found = None;

@@ -1,7 +1,7 @@
 //! Breaks at lines, and whether a step leads to one.
 
+use run_state::live::Live;
 use std::alloc::AllocError;
-use view_cells::picture::Picture;
 use view_text::writer::Writer;
 use walk_answers::scope::condition_of;
 
@@ -18,7 +18,7 @@ pub struct Break {
 
 // Whether a condition holds where a process stands; one with a fault does not.
 fn holds(
-    picture: &Picture<'_, '_, '_>,
+    live: &Live<'_, '_>,
     process: usize,
     condition: &Option<String>,
     scratch: &mut Writer,
@@ -26,8 +26,8 @@ fn holds(
     let Some(text) = condition else {
         return Ok(true);
     };
-    match condition_of(picture, process, text.as_bytes(), scratch)? {
-        Some(read) => match read.worth(picture) {
+    match condition_of(live, process, text.as_bytes(), scratch)? {
+        Some(read) => match read.worth(live) {
             Ok(worth) => Ok(worth != 0),
             Err(_) => Ok(false),
         },
@@ -37,14 +37,14 @@ fn holds(
 
 // Whether a process that has come to a line stops there.
 fn stops_at(
-    picture: &Picture<'_, '_, '_>,
+    live: &Live<'_, '_>,
     process: usize,
     line: u32,
     breaks: &mut [Break],
     scratch: &mut Writer,
 ) -> Result<bool, AllocError> {
     for one in breaks {
-        if one.line == line && holds(picture, process, &one.condition, scratch)? {
+        if one.line == line && holds(live, process, &one.condition, scratch)? {
             one.hits = one.hits.saturating_add(1);
             if one.hits >= one.from {
                 return Ok(true);
@@ -64,7 +64,7 @@ fn line_at(lines: &[u32], process: usize) -> u32 {
 
 /// The process that a step led to a break, from these lines to those.
 pub fn hit(
-    picture: &Picture<'_, '_, '_>,
+    live: &Live<'_, '_>,
     breaks: &mut [Break],
     before: &[u32],
     now: &[u32],
@@ -75,7 +75,7 @@ pub fn hit(
     }
     for process in 0..now.len() {
         let line = now[process];
-        if line != line_at(before, process) && stops_at(picture, process, line, breaks, scratch)? {
+        if line != line_at(before, process) && stops_at(live, process, line, breaks, scratch)? {
             return Ok(Some(process));
         }
     }

@@ -15,7 +15,6 @@ use serde_json::{Value, json};
 use std::alloc::AllocError;
 use view_commands::names::name_of;
 use view_session::answers::{Reply, Setting, answer, go_further};
-use view_session::seen::picture_of;
 use view_session::steps::move_at;
 use view_walk::leg::Leg;
 use view_walk::walk::Walk;
@@ -40,8 +39,8 @@ pub fn tell_worth(
     ensures goes_on { GoesOn session.old session.new }
     ensures replied { OnOk result (session.old.out < session.new.out) }
 {
-    let picture = picture_of(walk.world());
-    match worth_of(session.allocator(), &picture, process, text)? {
+    let live = walk.world().live();
+    match worth_of(session.allocator(), live, process, text)? {
         Worth::Value(body) => session.out.reply(request, body),
         Worth::Wrong(words) => session.out.refuse(request, words.as_str()),
     }
@@ -63,7 +62,7 @@ fn take_number(
     let Some(m) = move_at(moves, choice) else {
         return session.out.refuse(request, "bad choice");
     };
-    let words = move_words(session.allocator(), &picture_of(walk.world()), &m)?;
+    let words = move_words(session.allocator(), walk.world().live(), &m)?;
     reply_words(session, request, words.as_str())?;
     choose(walk, session, moves, choice)
 }

@@ -7,21 +7,20 @@ use dap_messages::processes::process_of;
 use dap_messages::references::{Listed, shown_by};
 use dap_messages::words::words_of;
 use pml_sim::world::World;
+use run_state::live::Live;
 use serde_json::{Value, json};
 use std::alloc::{AllocError, Global};
 use view_cells::cells::place_of;
-use view_cells::picture::Picture;
 use view_cells::processes::add_name;
-use view_session::seen::picture_of;
 use view_session::written::{cell_named, is_written};
 use view_text::writer::Writer;
 
 // Writes whose a variable is: `P[2].` of a process.
-fn add_owner(picture: &Picture<'_, '_, '_>, frame: usize, out: &mut Writer)
+fn add_owner(live: &Live<'_, '_>, frame: usize, out: &mut Writer)
     ensures { Stays out.old out.new }
 {
     if frame > 0 {
-        add_name(picture, frame - 1, out);
+        add_name(live, frame - 1, out);
         out.add(b"[");
         out.number(frame - 1);
         out.add(b"].");
@@ -29,14 +28,9 @@ fn add_owner(picture: &Picture<'_, '_, '_>, frame: usize, out: &mut Writer)
 }
 
 // Whether a frame has a cell with this path.
-fn is_in(
-    picture: &Picture<'_, '_, '_>,
-    frame: usize,
-    name: &str,
-    alloc: Global,
-) -> Result<bool, AllocError> {
+fn is_in(live: &Live<'_, '_>, frame: usize, name: &str, alloc: Global) -> Result<bool, AllocError> {
     let mut text = Writer::new(alloc);
-    let found = place_of(picture, frame, name.as_bytes(), &mut text).is_some();
+    let found = place_of(live, frame, name.as_bytes(), &mut text).is_some();
     if text.is_refused() {
         return Err(AllocError);
     }
@@ -60,17 +54,17 @@ fn frame_of(request: &Value) -> usize {
 
 // The path of a variable for all of a state, if there is one.
 fn whole_path(
-    picture: &Picture<'_, '_, '_>,
+    live: &Live<'_, '_>,
     frame: usize,
     name: &str,
     alloc: Global,
 ) -> Result<Option<String>, AllocError> {
     let mut out = Writer::new(alloc);
-    if frame > 0 && is_in(picture, frame, name, alloc)? {
-        add_owner(picture, frame, &mut out);
+    if frame > 0 && is_in(live, frame, name, alloc)? {
+        add_owner(live, frame, &mut out);
     } else {
         let mut text = Writer::new(alloc);
-        if cell_named(picture, name.as_bytes(), &mut text)?.is_none() {
+        if cell_named(live, name.as_bytes(), &mut text)?.is_none() {
             return Ok(None);
         }
     }
@@ -79,13 +73,9 @@ fn whole_path(
 }
 
 /// Whether runs can stop at the changes of a variable, and the name that it has then.
-pub fn info_of(
-    alloc: Global,
-    picture: &Picture<'_, '_, '_>,
-    request: &Value,
-) -> Result<Value, AllocError> {
+pub fn info_of(alloc: Global, live: &Live<'_, '_>, request: &Value) -> Result<Value, AllocError> {
     let name = text_at(request, "/arguments/name");
-    match whole_path(picture, frame_of(request), name, alloc)? {
+    match whole_path(live, frame_of(request), name, alloc)? {
         Some(path) => {
             let path = path.as_str();
             json!(in alloc; {"dataId": path, "description": path, "accessTypes": ["write"], "canPersist": true})
@@ -97,7 +87,7 @@ pub fn info_of(
 /// Keeps the variables at whose changes runs stop, and answers which of them there are.
 pub fn set_watched(
     alloc: Global,
-    picture: &Picture<'_, '_, '_>,
+    live: &Live<'_, '_>,
     request: &Value,
     watched: &mut Vec<String>,
 ) -> Result<Value, AllocError> {
@@ -106,7 +96,7 @@ pub fn set_watched(
     for one in items_at(request, "/arguments/breakpoints") {
         let name = text_at(one, "/dataId");
         let mut text = Writer::new(alloc);
-        let is_there = cell_named(picture, name.as_bytes(), &mut text)?.is_some();
+        let is_there = cell_named(live, name.as_bytes(), &mut text)?.is_some();
         if is_there {
             watched.push(String::from_str(alloc, name)?)?;
         }
@@ -122,7 +112,7 @@ pub fn is_changed(
     scratch: &mut Writer,
 ) -> Result<bool, AllocError> {
     for name in watched {
-        let found = cell_named(&picture_of(world), name.as_bytes(), scratch)?;
+        let found = cell_named(world.live(), name.as_bytes(), scratch)?;
         if let Some(cell) = found {
             if is_written(world, cell)? {
                 return Ok(true);

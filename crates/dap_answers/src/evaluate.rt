@@ -5,12 +5,12 @@ use dap_messages::channels::add_contents;
 use dap_messages::references::{Listed, reference_of};
 use dap_messages::words::words_of;
 use promela_process::place::Place;
+use run_state::live::Live;
 use serde_json::{Value, json};
 use std::alloc::{AllocError, Global};
 use view_cells::cells::{
     add_value, cell_count, form_at, is_chan, number_at, place_of, slot_at, variable_count,
 };
-use view_cells::picture::Picture;
 use view_condition::condition::StateCondition;
 use view_session::watch::add_fault;
 use view_session::written::cell_named;
@@ -40,44 +40,40 @@ fn frame_of(process: Option<usize>) -> usize {
 // The cell that a text names: of the process, else of the globals or of a process that is named.
 fn cell_of(
     alloc: Global,
-    picture: &Picture<'_, '_, '_>,
+    live: &Live<'_, '_>,
     frame: usize,
     text: &str,
 ) -> Result<Option<Place>, AllocError> {
     let mut scratch = Writer::new(alloc);
-    if let Some(place) = place_of(picture, frame, text.as_bytes(), &mut scratch) {
+    if let Some(place) = place_of(live, frame, text.as_bytes(), &mut scratch) {
         return Ok(Some(place));
     }
-    match cell_named(picture, text.as_bytes(), &mut scratch)? {
+    match cell_named(live, text.as_bytes(), &mut scratch)? {
         Some(cell) => Ok(Some(cell.place)),
         None => Ok(None),
     }
 }
 
 // The value of a cell: of a channel its contents.
-fn of_cell(
-    alloc: Global,
-    picture: &Picture<'_, '_, '_>,
-    place: Place,
-) -> Result<Worth, AllocError> {
-    let reference = messages_of(picture, place);
+fn of_cell(alloc: Global, live: &Live<'_, '_>, place: Place) -> Result<Worth, AllocError> {
+    let reference = messages_of(live, place);
     if reference == 0 {
-        let value = value_of(alloc, picture, place)?;
+        let value = value_of(alloc, live, place)?;
         return body_of(alloc, value.as_str(), 0);
     }
     let mut out = Writer::new(alloc);
-    if is_chan(form_at(picture, place)) {
-        let number = number_at(picture, place).max(0);
-        add_contents(picture, number as usize, &mut out);
+    if is_chan(form_at(live, place)) {
+        let number = number_at(live, place).max(0);
+        add_contents(live, number as usize, &mut out);
     }
     let words = words_of(&out)?;
     body_of(alloc, words.as_str(), reference)
 }
 
 // The number of the variable of a frame with this name.
-fn variable_in(picture: &Picture<'_, '_, '_>, frame: usize, text: &str) -> Option<usize> {
-    for number in 0..variable_count(picture, frame) {
-        if let Some(slot) = slot_at(picture, frame, number) {
+fn variable_in(live: &Live<'_, '_>, frame: usize, text: &str) -> Option<usize> {
+    for number in 0..variable_count(live, frame) {
+        if let Some(slot) = slot_at(live, frame, number) {
             if slot.name.text() == text.as_bytes() {
                 return Some(number);
             }
@@ -89,25 +85,21 @@ fn variable_in(picture: &Picture<'_, '_, '_>, frame: usize, text: &str) -> Optio
 // A variable of several cells.
 fn of_variable(
     alloc: Global,
-    picture: &Picture<'_, '_, '_>,
+    live: &Live<'_, '_>,
     frame: usize,
     number: usize,
 ) -> Result<Worth, AllocError> {
-    let words = count_words(alloc, cell_count(picture, frame, number))?;
+    let words = count_words(alloc, cell_count(live, frame, number))?;
     let reference = reference_of(Listed::Cells(frame, number));
     body_of(alloc, words.as_str(), reference)
 }
 
 // The variable of several cells that a text names, with the number of its frame.
-fn several_named(
-    picture: &Picture<'_, '_, '_>,
-    frame: usize,
-    text: &str,
-) -> Option<(usize, usize)> {
-    if let Some(number) = variable_in(picture, frame, text) {
+fn several_named(live: &Live<'_, '_>, frame: usize, text: &str) -> Option<(usize, usize)> {
+    if let Some(number) = variable_in(live, frame, text) {
         return Some((frame, number));
     }
-    match variable_in(picture, 0, text) {
+    match variable_in(live, 0, text) {
         Some(number) => Some((0, number)),
         None => None,
     }
@@ -116,14 +108,14 @@ fn several_named(
 // What a condition is worth.
 fn of_condition(
     alloc: Global,
-    picture: &Picture<'_, '_, '_>,
+    live: &Live<'_, '_>,
     condition: &StateCondition,
 ) -> Result<Worth, AllocError> {
     let mut out = Writer::new(alloc);
-    match (condition.worth(picture), condition.form()) {
-        (Ok(worth), Some(form)) => add_value(picture, form, worth, &mut out),
+    match (condition.worth(live), condition.form()) {
+        (Ok(worth), Some(form)) => add_value(live, form, worth, &mut out),
         (Ok(worth), None) => out.signed(worth),
-        (Err(_), _) if condition.absent(picture).is_some() => {
+        (Err(_), _) if condition.absent(live).is_some() => {
             let words = String::from_str(alloc, "its process is not there")?;
             return Ok(Worth::Wrong(words));
         }
@@ -139,14 +131,14 @@ fn of_condition(
 // What an expression is worth that names no variable.
 fn of_expression(
     alloc: Global,
-    picture: &Picture<'_, '_, '_>,
+    live: &Live<'_, '_>,
     process: Option<usize>,
     text: &str,
 ) -> Result<Worth, AllocError> {
     let process = process.unwrap_or(usize::MAX);
     let mut words = Writer::new(alloc);
-    match condition_of(picture, process, text.as_bytes(), &mut words)? {
-        Some(condition) => of_condition(alloc, picture, &condition),
+    match condition_of(live, process, text.as_bytes(), &mut words)? {
+        Some(condition) => of_condition(alloc, live, &condition),
         None => {
             let words = words_of(&words)?;
             let words = String::from_str(alloc, words.as_str().trim())?;
@@ -158,16 +150,16 @@ fn of_expression(
 /// What a text is worth where a process reads it: a variable, a channel's contents, or an expression.
 pub fn worth_of(
     alloc: Global,
-    picture: &Picture<'_, '_, '_>,
+    live: &Live<'_, '_>,
     process: Option<usize>,
     text: &str,
 ) -> Result<Worth, AllocError> {
     let frame = frame_of(process);
-    if let Some(place) = cell_of(alloc, picture, frame, text)? {
-        return of_cell(alloc, picture, place);
+    if let Some(place) = cell_of(alloc, live, frame, text)? {
+        return of_cell(alloc, live, place);
     }
-    if let Some((frame, number)) = several_named(picture, frame, text) {
-        return of_variable(alloc, picture, frame, number);
+    if let Some((frame, number)) = several_named(live, frame, text) {
+        return of_variable(alloc, live, frame, number);
     }
-    of_expression(alloc, picture, process, text)
+    of_expression(alloc, live, process, text)
 }

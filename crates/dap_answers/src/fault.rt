@@ -9,12 +9,11 @@ use crate::stop::{SessionStop, tell_stop};
 use dap_messages::words::words_of;
 use diagnostics::Fault;
 use promela_run::moves::Move;
+use run_state::live::Live;
 use run_texts::ends::stuck;
 use serde_json::{Value, json};
 use std::alloc::{AllocError, Global};
-use view_cells::picture::Picture;
 use view_session::question::add_cause;
-use view_session::seen::picture_of;
 use view_session::watch::add_fault;
 use view_state::choices::{add_ending, add_move, ending_of};
 use view_state::why::add_why;
@@ -41,14 +40,14 @@ fn id_of(fault: Fault) -> &'static str {
 // What is told of a fault.
 fn fault_words(
     alloc: Global,
-    picture: &Picture<'_, '_, '_>,
+    live: &Live<'_, '_>,
     m: &Move,
     fault: Fault,
 ) -> Result<String, AllocError> {
     let mut out = Writer::new(alloc);
     add_fault(fault, &mut out);
     out.add(b": ");
-    add_move(picture, m, &mut out);
+    add_move(live, m, &mut out);
     out.add(b", not taken");
     words_of(&out)
 }
@@ -56,13 +55,13 @@ fn fault_words(
 // What the statement read, and what the fault was about.
 fn fault_details(
     alloc: Global,
-    picture: &Picture<'_, '_, '_>,
+    live: &Live<'_, '_>,
     m: &Move,
     fault: Fault,
 ) -> Result<String, AllocError> {
     let mut out = Writer::new(alloc);
-    add_statement_reads(picture, m, &mut out);
-    add_detail(detail_of(picture, m, fault), &mut out);
+    add_statement_reads(live, m, &mut out);
+    add_detail(detail_of(live, m, fault), &mut out);
     words_of(&out)
 }
 
@@ -98,11 +97,11 @@ pub fn stop_at_fault(
     ensures goes_on { GoesOn session.old session.new }
 {
     let alloc = session.allocator();
-    let picture = picture_of(walk.world());
+    let live = walk.world().live();
     let exception = Exception {
         id: id_of(fault),
-        words: fault_words(alloc, &picture, m, fault)?,
-        details: fault_details(alloc, &picture, m, fault)?,
+        words: fault_words(alloc, live, m, fault)?,
+        details: fault_details(alloc, live, m, fault)?,
     };
     tell(walk, session, starter_of(m), exception)
 }
@@ -113,17 +112,17 @@ fn end_details(walk: &mut Walk<'_, '_>, alloc: Global) -> Result<String, AllocEr
 {
     let mut out = Writer::new(alloc);
     let at = walk.at();
-    let picture = picture_of(walk.world());
-    add_ending(&picture, at, &mut out);
-    add_why(&picture, &[], false, &mut out)?;
+    let live = walk.world().live();
+    add_ending(live, at, &mut out);
+    add_why(live, &[], false, &mut out)?;
     add_cause(walk, &[], &mut out)?;
     words_of(&out)
 }
 
 // The first process that may not end where it stands.
-fn first_stuck(picture: &Picture<'_, '_, '_>) -> usize {
-    for process in 0..picture.process_count() {
-        if stuck(picture.live(), process).is_some() {
+fn first_stuck(live: &Live<'_, '_>) -> usize {
+    for process in 0..live.process_count() {
+        if stuck(live, process).is_some() {
             return process;
         }
     }
@@ -135,7 +134,7 @@ pub fn stop_at_end(walk: &mut Walk<'_, '_>, session: &mut ClientSession) -> Resu
     ensures model { SameModel walk.old walk.new }
     ensures goes_on { GoesOn session.old session.new }
 {
-    if ending_of(&picture_of(walk.world())) == "valid" {
+    if ending_of(walk.world().live()) == "valid" {
         let why = SessionStop {
             reason: "end",
             process: 0,
@@ -149,7 +148,7 @@ pub fn stop_at_end(walk: &mut Walk<'_, '_>, session: &mut ClientSession) -> Resu
         words: String::from_str(session.allocator(), "invalid end: no process can move")?,
         details,
     };
-    let process = first_stuck(&picture_of(walk.world()));
+    let process = first_stuck(walk.world().live());
     tell(walk, session, process, exception)
 }
 

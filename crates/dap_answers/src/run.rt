@@ -14,7 +14,6 @@ use dap_messages::words::text_of;
 use diagnostics::Fault;
 use promela_run::moves::Move;
 use std::alloc::AllocError;
-use view_session::seen::picture_of;
 use view_session::steps::move_at;
 use view_text::writer::Writer;
 use view_waits::waits::starter_of;
@@ -55,10 +54,10 @@ fn stops_here(
 ) -> Result<Option<Ended>, AllocError>
     ensures goes_on { GoesOn session.old session.new }
 {
-    let picture = picture_of(walk.world());
-    let now = lines_of(session.allocator(), &picture)?;
+    let live = walk.world().live();
+    let now = lines_of(session.allocator(), live)?;
     let met = hit(
-        &picture,
+        live,
         session.breaks.as_mut_slice(),
         run.lines.as_slice(),
         now.as_slice(),
@@ -186,7 +185,7 @@ pub fn run_on(walk: &mut Walk<'_, '_>, session: &mut ClientSession) -> Result<()
 {
     let alloc = session.allocator();
     let mut run = Run {
-        lines: lines_of(alloc, &picture_of(walk.world()))?,
+        lines: lines_of(alloc, walk.world().live())?,
         printed: Vec::new(alloc),
         scratch: Writer::new(alloc),
     };

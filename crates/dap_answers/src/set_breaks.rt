@@ -7,11 +7,10 @@ use crate::debugging::ClientSession;
 use dap_messages::fields::{items_at, number_at, text_at};
 use dap_messages::processes::ModelSource;
 use dap_messages::words::words_of;
+use run_state::live::Live;
 use serde_json::{Value, json};
 use std::alloc::{AllocError, Global};
-use view_cells::picture::Picture;
 use view_cells::processes::is_standing_line;
-use view_session::seen::picture_of;
 use view_text::writer::Writer;
 use view_walk::walk::Walk;
 use walk_answers::scope::condition_in_proctype;
@@ -36,7 +35,7 @@ fn line_count(text: &[u8]) -> u32 {
 }
 
 // The first line from one on at which a process can stand.
-fn standing_line(picture: &Picture<'_, '_, '_>, from: usize, last: u32) -> Option<u32> {
+fn standing_line(live: &Live<'_, '_>, from: usize, last: u32) -> Option<u32> {
     let Ok(first) = u32::try_from(from) else {
         return None;
     };
@@ -44,7 +43,7 @@ fn standing_line(picture: &Picture<'_, '_, '_>, from: usize, last: u32) -> Optio
         return None;
     }
     for line in first..=last {
-        if is_standing_line(picture, line) {
+        if is_standing_line(live, line) {
             return Some(line);
         }
     }
@@ -75,7 +74,7 @@ fn condition_of(alloc: Global, one: &Value) -> Result<Option<String>, AllocError
 
 // Why no process can read a condition at a line, if so.
 fn flaw_of(
-    picture: &Picture<'_, '_, '_>,
+    live: &Live<'_, '_>,
     line: u32,
     condition: &Option<String>,
     alloc: Global,
@@ -84,7 +83,7 @@ fn flaw_of(
         return Ok(None);
     };
     let mut words = Writer::new(alloc);
-    if condition_in_proctype(picture, line, text.as_bytes(), &mut words)? {
+    if condition_in_proctype(live, line, text.as_bytes(), &mut words)? {
         return Ok(None);
     }
     Ok(Some(words_of(&words)?))
@@ -92,18 +91,18 @@ fn flaw_of(
 
 // Keeps a break, and answers what is said of it.
 fn keep(
-    picture: &Picture<'_, '_, '_>,
+    live: &Live<'_, '_>,
     one: &Value,
     last: u32,
     breaks: &mut Vec<Break>,
     alloc: Global,
 ) -> Result<Value, AllocError> {
     let asked = number_at(one, "/line").unwrap_or(0);
-    let Some(line) = standing_line(picture, asked, last) else {
+    let Some(line) = standing_line(live, asked, last) else {
         return unverified(alloc, asked, "no statement begins here");
     };
     let condition = condition_of(alloc, one)?;
-    if let Some(flaw) = flaw_of(picture, line, &condition, alloc)? {
+    if let Some(flaw) = flaw_of(live, line, &condition, alloc)? {
         return unverified(alloc, asked, flaw.as_str());
     }
     breaks.push(Break {
@@ -118,7 +117,7 @@ fn keep(
 
 // Keeps the breaks of the model's file.
 fn keep_all(
-    picture: &Picture<'_, '_, '_>,
+    live: &Live<'_, '_>,
     request: &Value,
     last: u32,
     breaks: &mut Vec<Break>,
@@ -127,7 +126,7 @@ fn keep_all(
     let mut list = Vec::new(alloc);
     breaks.clear();
     for one in items_at(request, "/arguments/breakpoints") {
-        list.push(keep(picture, one, last, breaks, alloc)?)?;
+        list.push(keep(live, one, last, breaks, alloc)?)?;
     }
     json!(in alloc; {"breakpoints": list})
 }
@@ -157,6 +156,6 @@ pub fn set_breaks(
         return keep_none(alloc, request);
     }
     let last = line_count(source.text);
-    let picture = picture_of(walk.world());
-    keep_all(&picture, request, last, &mut session.breaks, alloc)
+    let live = walk.world().live();
+    keep_all(live, request, last, &mut session.breaks, alloc)
 }

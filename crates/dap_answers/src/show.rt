@@ -1,4 +1,4 @@
-//! What is shown of a state: each answer is of a picture of it, and of which stop it is.
+//! What is shown of a state: each answer is of what lives in it, and of which stop it is.
 
 use crate::commands::DebugRequest;
 use crate::data::info_of as data_info_of;
@@ -8,14 +8,14 @@ use dap_messages::moves::targets_of;
 use dap_messages::processes::{ModelSource, process_of, stack_of, threads_of};
 use dap_messages::references::{Listed, shown_by};
 use dap_messages::variables::{MOST_SHOWN, scopes_of, variables_by};
+use run_state::live::Live;
 use serde_json::{Value, json};
 use std::alloc::{AllocError, Global};
-use view_cells::picture::Picture;
 
 // A process that a request names, if it lives.
-fn process_at(picture: &Picture<'_, '_, '_>, request: &Value, path: &str) -> Option<usize> {
+fn process_at(live: &Live<'_, '_>, request: &Value, path: &str) -> Option<usize> {
     let process = process_of(number_at(request, path))?;
-    if process < picture.process_count() {
+    if process < live.process_count() {
         Some(process)
     } else {
         None
@@ -43,52 +43,63 @@ fn is_none_named(request: &Value, reference: usize) -> bool {
     is_named && matches!(shown_by(reference), Listed::Cells(_, _))
 }
 
-fn variables(
-    alloc: Global,
-    picture: &Picture<'_, '_, '_>,
-    request: &Value,
-) -> Result<Value, AllocError> {
+fn variables(alloc: Global, live: &Live<'_, '_>, request: &Value) -> Result<Value, AllocError> {
     let reference = number_at(request, "/arguments/variablesReference").unwrap_or(0);
     if is_none_named(request, reference) {
         return json!(in alloc; {"variables": []});
     }
-    variables_by(alloc, picture, reference, page_of(request))
+    variables_by(alloc, live, reference, page_of(request))
 }
 
 // What is shown of a process.
 fn of_process(
     alloc: Global,
-    picture: &Picture<'_, '_, '_>,
+    live: &Live<'_, '_>,
     process: usize,
     source: ModelSource<'_>,
     command: DebugRequest,
     stop: usize,
 ) -> Result<Value, AllocError> {
     match command {
-        DebugRequest::StackTrace => stack_of(alloc, picture, process, source),
+        DebugRequest::StackTrace => stack_of(alloc, live, process, source),
         DebugRequest::Scopes => scopes_of(alloc, process),
-        _ => targets_of(alloc, picture, process, stop),
+        _ => targets_of(alloc, live, process, stop),
     }
 }
 
-/// What a request shows of a state; none where the process is not there that it names.
-pub fn shown(
+// What a request shows of the process that it names there, if that lives.
+fn of_named(
     alloc: Global,
-    picture: &Picture<'_, '_, '_>,
+    live: &Live<'_, '_>,
     source: ModelSource<'_>,
     stop: usize,
     command: DebugRequest,
     request: &Value,
 ) -> Result<Option<Value>, AllocError> {
     let path = match command {
-        DebugRequest::Threads => return Ok(Some(threads_of(alloc, picture)?)),
-        DebugRequest::Variables => return Ok(Some(variables(alloc, picture, request)?)),
-        DebugRequest::DataBreakpointInfo => return Ok(Some(data_info_of(alloc, picture, request)?)),
         DebugRequest::StackTrace => "/arguments/threadId",
         _ => "/arguments/frameId",
     };
-    match process_at(picture, request, path) {
-        Some(process) => Ok(Some(of_process(alloc, picture, process, source, command, stop)?)),
+    match process_at(live, request, path) {
+        Some(process) => Ok(Some(of_process(alloc, live, process, source, command, stop)?)),
         None => Ok(None),
     }
+}
+
+/// What a request shows of a state; none where the process is not there that it names.
+pub fn shown(
+    alloc: Global,
+    live: &Live<'_, '_>,
+    source: ModelSource<'_>,
+    stop: usize,
+    command: DebugRequest,
+    request: &Value,
+) -> Result<Option<Value>, AllocError> {
+    let body = match command {
+        DebugRequest::Threads => threads_of(alloc, live),
+        DebugRequest::Variables => variables(alloc, live, request),
+        DebugRequest::DataBreakpointInfo => data_info_of(alloc, live, request),
+        _ => return of_named(alloc, live, source, stop, command, request),
+    };
+    Ok(Some(body?))
 }

@@ -10,7 +10,6 @@ use dap_messages::moves::add_all_waits;
 use dap_messages::words::{text_of, words_of};
 use promela_run::moves::Move;
 use std::alloc::AllocError;
-use view_session::seen::picture_of;
 use view_session::steps::{MoveTexts, add_step_line, move_at, texts_of};
 use view_state::choices::add_choices;
 use view_text::writer::Writer;
@@ -121,7 +120,7 @@ pub fn stop_at_choice(
     ensures goes_on { GoesOn session.old session.new }
 {
     let mut out = Writer::new(session.allocator());
-    add_choices(&picture_of(walk.world()), moves, false, &mut out)?;
+    add_choices(walk.world().live(), moves, false, &mut out)?;
     session.out.output("console", words_of(&out)?.as_str())?;
     let why = SessionStop {
         reason: "choice",
@@ -140,7 +139,7 @@ fn stop_waiting(
     ensures goes_on { GoesOn session.old session.new }
 {
     let mut out = Writer::new(session.allocator());
-    add_all_waits(&picture_of(walk.world()), process, &mut out)?;
+    add_all_waits(walk.world().live(), process, &mut out)?;
     let words = words_of(&out)?;
     let why = SessionStop {
         reason: "step",

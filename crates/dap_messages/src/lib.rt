@@ -1,4 +1,4 @@
-//! Messages of a debug adapter: responses to requests, events, and what stands in requests; and a state as a debugger shows it, by a picture of it alone: two
+//! Messages of a debug adapter: responses to requests, events, and what stands in requests; and a state as a debugger shows it, by what lives in it alone: two
 //! walks that stand in one state show the same.
 #![tactic(auto)]
 

@@ -3,9 +3,9 @@
 ghost use Rattle.std.specs.Prelude.{◌≡◌, ◌+◌, Some, IfSome};
 
 use crate::words::words_of;
+use run_state::live::Live;
 use serde_json::{Value, json};
 use std::alloc::{AllocError, Global};
-use view_cells::picture::Picture;
 use view_cells::processes::{add_name, line_of};
 use view_state::counted::{count_at, counts_of};
 use view_text::writer::Writer;
@@ -29,12 +29,12 @@ pub fn process_of(thread: Option<usize>) -> Option<usize>
 // The name of a thread: its proctype and its number, and whether it waits.
 fn thread_name(
     alloc: Global,
-    picture: &Picture<'_, '_, '_>,
+    live: &Live<'_, '_>,
     process: usize,
     waits: bool,
 ) -> Result<String, AllocError> {
     let mut out = Writer::new(alloc);
-    add_name(picture, process, &mut out);
+    add_name(live, process, &mut out);
     out.add(b" (");
     out.number(process);
     out.add(b")");
@@ -45,13 +45,13 @@ fn thread_name(
 }
 
 /// The processes as threads.
-pub fn threads_of(alloc: Global, picture: &Picture<'_, '_, '_>) -> Result<Value, AllocError> {
-    let moves = moves_in(alloc, picture)?;
-    let counts = counts_of(alloc, picture.process_count(), moves.as_slice())?;
+pub fn threads_of(alloc: Global, live: &Live<'_, '_>) -> Result<Value, AllocError> {
+    let moves = moves_in(alloc, live)?;
+    let counts = counts_of(alloc, live.process_count(), moves.as_slice())?;
     let mut list = Vec::new(alloc);
-    for process in 0..picture.process_count() {
+    for process in 0..live.process_count() {
         let waits = count_at(counts.as_slice(), process) == 0;
-        let name = thread_name(alloc, picture, process, waits)?;
+        let name = thread_name(alloc, live, process, waits)?;
         let id = thread_of(process);
         list.push(json!(in alloc; {"id": id, "name": name})?)?;
     }
@@ -93,15 +93,15 @@ fn column_of(text: &[u8], line: u32) -> usize {
 /// The frame of a process: its proctype, and where it stands.
 pub fn stack_of(
     alloc: Global,
-    picture: &Picture<'_, '_, '_>,
+    live: &Live<'_, '_>,
     process: usize,
     source: ModelSource<'_>,
 ) -> Result<Value, AllocError> {
     let mut out = Writer::new(alloc);
-    add_name(picture, process, &mut out);
+    add_name(live, process, &mut out);
     let name = words_of(&out)?;
     let id = thread_of(process);
-    let line = line_of(picture, process);
+    let line = line_of(live, process);
     let column = column_of(source.text, line);
     let path = source.path;
     let file = name_of(path);
@@ -111,10 +111,10 @@ pub fn stack_of(
 }
 
 /// The lines at which the processes stand.
-pub fn lines_of(alloc: Global, picture: &Picture<'_, '_, '_>) -> Result<Vec<u32>, AllocError> {
+pub fn lines_of(alloc: Global, live: &Live<'_, '_>) -> Result<Vec<u32>, AllocError> {
     let mut list = Vec::new(alloc);
-    for process in 0..picture.process_count() {
-        list.push(line_of(picture, process))?;
+    for process in 0..live.process_count() {
+        list.push(line_of(live, process))?;
     }
     Ok(list)
 }

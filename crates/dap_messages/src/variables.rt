@@ -4,9 +4,9 @@ use crate::cells::{ItemRange, cells_of, variables_of};
 use crate::channels::{channels_of, messages_of};
 use crate::moves::{moves_of, waits_of};
 use crate::references::{Listed, reference_of, shown_by};
+use run_state::live::Live;
 use serde_json::{Value, json};
 use std::alloc::{AllocError, Global};
-use view_cells::picture::Picture;
 
 /// So many variables are shown at once, where no other count is asked for.
 pub const MOST_SHOWN: usize = 4_096;
@@ -30,18 +30,18 @@ pub fn scopes_of(alloc: Global, process: usize) -> Result<Value, AllocError> {
 // The variables that a number stands for.
 fn list_of(
     alloc: Global,
-    picture: &Picture<'_, '_, '_>,
+    live: &Live<'_, '_>,
     shown: Listed,
     page: ItemRange,
 ) -> Result<Value, AllocError> {
     match shown {
-        Listed::Globals => variables_of(alloc, picture, 0, page),
-        Listed::Channels => channels_of(alloc, picture, page),
-        Listed::Moves => moves_of(alloc, picture, page),
-        Listed::Locals(process) => variables_of(alloc, picture, process.saturating_add(1), page),
-        Listed::Waits(process) => waits_of(alloc, picture, process),
-        Listed::Cells(frame, variable) => cells_of(alloc, picture, frame, variable, page),
-        Listed::Messages(number) => messages_of(alloc, picture, number, page),
+        Listed::Globals => variables_of(alloc, live, 0, page),
+        Listed::Channels => channels_of(alloc, live, page),
+        Listed::Moves => moves_of(alloc, live, page),
+        Listed::Locals(process) => variables_of(alloc, live, process.saturating_add(1), page),
+        Listed::Waits(process) => waits_of(alloc, live, process),
+        Listed::Cells(frame, variable) => cells_of(alloc, live, frame, variable, page),
+        Listed::Messages(number) => messages_of(alloc, live, number, page),
         Listed::Nothing => json!(in alloc; []),
     }
 }
@@ -49,10 +49,10 @@ fn list_of(
 /// The variables that a number stands for, as far as they are asked for.
 pub fn variables_by(
     alloc: Global,
-    picture: &Picture<'_, '_, '_>,
+    live: &Live<'_, '_>,
     reference: usize,
     page: ItemRange,
 ) -> Result<Value, AllocError> {
-    let list = list_of(alloc, picture, shown_by(reference), page)?;
+    let list = list_of(alloc, live, shown_by(reference), page)?;
     json!(in alloc; {"variables": list})
 }

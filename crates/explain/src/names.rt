@@ -127,6 +127,30 @@ fn behind_sort(sort: NameSort) -> &'static str {
     }
 }
 
+/// Of a field behind `->`.
+fn behind_arrow(message: &mut Notice<'_>, holder: &[u8], field: &[u8]) -> Result<(), AllocError>
+    ensures { OnOk result (Keeps message.old message.new) }
+{
+    message.around("", field, " is declared nowhere: a field of ")?;
+    message.around("", holder, " stands behind `.`, and not behind `->`")
+}
+
+/// Of a name that is declared nowhere, with what to do.
+fn undeclared(message: &mut Notice<'_>, name: &[u8], advice: &str) -> Result<(), AllocError>
+    ensures { OnOk result (Keeps message.old message.new) }
+{
+    message.around("", name, " is declared nowhere: ")?;
+    message.push(advice)
+}
+
+/// Of a name that is nearly another.
+fn nearly(message: &mut Notice<'_>, name: &[u8], word: &[u8]) -> Result<(), AllocError>
+    ensures { OnOk result (Keeps message.old message.new) }
+{
+    message.name(name)?;
+    message.around("; did you mean ", word, "?")
+}
+
 /// Of a name that is not declared.
 pub fn of_unknown(message: &mut Notice<'_>, cause: UnknownCause<'_>) -> Result<(), AllocError>
     ensures { OnOk result (Keeps message.old message.new) }
@@ -151,17 +175,12 @@ pub fn of_unknown(message: &mut Notice<'_>, cause: UnknownCause<'_>) -> Result<(
             " (",
             ") cannot have a field of itself, nor of one that is declared behind it",
         ),
-        UnknownCause::Arrow(holder, field) => {
-            message.around("", field, " is declared nowhere: a field of ")?;
-            message.around("", holder.name, " stands behind `.`, and not behind `->`")
-        }
-        UnknownCause::Foreign(name, foreign) => {
-            message.around("", name, " is declared nowhere: ")?;
-            message.push(advice(foreign))
-        }
+        UnknownCause::Arrow(holder, field) => behind_arrow(message, holder.name, field),
+        UnknownCause::Foreign(name, foreign) => undeclared(message, name, advice(foreign)),
         UnknownCause::Bare(name) => {
-            message.around("", name, " is declared nowhere: ")?;
-            message.push(
+            undeclared(
+                message,
+                name,
                 "a variable is declared before its use, as by `int a`, a label has a `:` behind it, and a loop is left by `break`",
             )
         }
@@ -171,10 +190,7 @@ pub fn of_unknown(message: &mut Notice<'_>, cause: UnknownCause<'_>) -> Result<(
             " is an inline (",
             "), and is called with parentheses, as in `f()`",
         ),
-        UnknownCause::Word(name, word) => {
-            message.name(name)?;
-            message.around("; did you mean ", word, "?")
-        }
+        UnknownCause::Word(name, word) => nearly(message, name, word),
         UnknownCause::Field(field, holder, near) => no_field(message, field, holder, near),
     }
 }

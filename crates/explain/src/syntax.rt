@@ -250,37 +250,49 @@ fn called(message: &mut Notice<'_>, name: &[u8]) -> Result<(), AllocError>
     message.push("; an element of an array is written `a[1]`")
 }
 
+/// Of a proctype that has no `run` in front of it.
+fn run_of(message: &mut Notice<'_>, proctype: Named<'_>) -> Result<(), AllocError>
+    ensures { OnOk result (Keeps message.old message.new) }
+{
+    message.placed("", proctype, " is a proctype (", "): ")?;
+    message.around("write `run` in front of ", proctype.name, "")
+}
+
+/// Of a name that is nearly a word.
+fn nearly_word(message: &mut Notice<'_>, name: &[u8], word: &[u8]) -> Result<(), AllocError>
+    ensures { OnOk result (Keeps message.old message.new) }
+{
+    message.around("", name, " is no word here")?;
+    message.around("; did you mean ", word, "?")
+}
+
+/// Of a name that is no word.
+fn no_word(message: &mut Notice<'_>, name: &[u8]) -> Result<(), AllocError>
+    ensures { OnOk result (Keeps message.old message.new) }
+{
+    message.around("", name, " is no word here, and no type that is declared: ")?;
+    message.push("leave it out, or write a word of the language for it")
+}
+
 /// Of a word that is told of itself, without what is found behind it; or else nothing is added, and that is answered.
 fn of_word(message: &mut Notice<'_>, wanted: Expected<'_>) -> Result<bool, AllocError>
     ensures { OnOk result (Keeps message.old message.new) }
 {
-    match wanted {
-        Expected::ForeignWord(foreign, word) => tell_word(message, foreign, word.name)?,
-        Expected::RunOf(proctype, _) => {
-            message.placed("", proctype, " is a proctype (", "): ")?;
-            message.around("write `run` in front of ", proctype.name, "")?;
-        }
-        Expected::Word(name, word) => {
-            message.around("", name.name, " is no word here")?;
-            message.around("; did you mean ", word, "?")?;
-        }
-        Expected::NoWord(name) => {
-            message.around(
-                "",
-                name.name,
-                " is no word here, and no type that is declared: ",
-            )?;
-            message.push("leave it out, or write a word of the language for it")?;
-        }
-        Expected::NoType(name) => no_type(message, name.name)?,
-        Expected::Index(name) => called(message, name.name)?,
-        Expected::InlineValue(name) => inline_value(message, name.name)?,
-        Expected::Inline(name, later) => wants_inline(message, name.name, later)?,
-        Expected::NameOfInline(name, inline) => name_of_inline(message, name.name, inline)?,
-        Expected::InlineRun(name, inline) => inline_run(message, name.name, inline)?,
-        Expected::Untyped(name) => untyped(message, name.name)?,
+    let told = match wanted {
+        Expected::ForeignWord(foreign, word) => tell_word(message, foreign, word.name),
+        Expected::RunOf(proctype, _) => run_of(message, proctype),
+        Expected::Word(name, word) => nearly_word(message, name.name, word),
+        Expected::NoWord(name) => no_word(message, name.name),
+        Expected::NoType(name) => no_type(message, name.name),
+        Expected::Index(name) => called(message, name.name),
+        Expected::InlineValue(name) => inline_value(message, name.name),
+        Expected::Inline(name, later) => wants_inline(message, name.name, later),
+        Expected::NameOfInline(name, inline) => name_of_inline(message, name.name, inline),
+        Expected::InlineRun(name, inline) => inline_run(message, name.name, inline),
+        Expected::Untyped(name) => untyped(message, name.name),
         _ => return Ok(false),
-    }
+    };
+    told?;
     Ok(true)
 }
 

@@ -58,8 +58,8 @@ fn flag_if(flags: bool, ends: &mut Vec<bool>, node: usize)
 pub fn valid_ends(
     alloc: Global,
     count: usize,
-    targets: &[usize],
     statements: &Statements<'_, '_>,
+    targets: &[usize],
 ) -> Result<Vec<bool>, AllocError>
     ensures { IfOk result (λ v. v.items ≡ marked statements.now 0 (flag (replicate count false) 0) targets.now) }
 {

@@ -122,8 +122,8 @@ impl Graph {
         drop(sites);
         let start = start_of(targets.as_slice());
         let statements = all_statements(alloc, &proctype.body)?;
-        let lines = kept_lines(alloc, next, &statements, proctype.end.line())?;
-        let ends = valid_ends(alloc, nodes.len(), targets.as_slice(), &statements)?;
+        let lines = kept_lines(alloc, &statements, next, proctype.end.line())?;
+        let ends = valid_ends(alloc, nodes.len(), &statements, targets.as_slice())?;
         let offered = offered(alloc, next.len(), all.edges.as_slice())?;
         let texts = all_texts(alloc, &statements, offered.as_slice())?;
         let AllEdges { edges, bounds, .. } = all;

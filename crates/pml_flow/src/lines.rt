@@ -33,8 +33,8 @@ pub fn line_of(stmt: Option<&Stmt<'_>>, brace: u32) -> u32
 /// The lines of the numbers where settling ends.
 pub fn kept_lines(
     alloc: Global,
-    next: &[Option<usize>],
     statements: &Statements<'_, '_>,
+    next: &[Option<usize>],
     brace: u32,
 ) -> Result<Vec<u32>, AllocError>
     ensures { IfOk result (λ v. v.items ≡ lines_from brace statements.now 0 next.now) }

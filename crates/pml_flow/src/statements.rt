@@ -70,7 +70,7 @@ pub fn all_statements<'p, 'a>(
     ensures { IfOk result (λ t. t ≡ map (stated body.now) (told_of body.now)) }
 {
     let mut table = Statements::new(alloc);
-    add_arm(None, body, &mut table)?;
+    add_arm(&mut table, None, body)?;
     Ok(table)
 }
 
@@ -91,9 +91,9 @@ fn follower<'p, 'a>(
 /// The statements of a sequence, from the last to the first.
 #[cycle(statements)]
 fn add_steps<'p, 'a>(
+    table: &mut Statements<'p, 'a>,
     next: Option<&'p Stmt<'a>>,
     stmts: &'p [Stmt<'a>],
-    table: &mut Statements<'p, 'a>,
 ) -> Result<(), AllocError>
     ensures { OnOk result (table.new ≡ table.old ++ inner_list (option_copied next.entry) stmts.now) }
 {
@@ -101,7 +101,7 @@ fn add_steps<'p, 'a>(
     while left > 0 {
         left -= 1;
         let stmt = &stmts[left];
-        add_inner(follower(stmts, left + 1, next), stmt, table)?;
+        add_inner(table, follower(stmts, left + 1, next), stmt)?;
         table.add(Some(stmt))?;
     }
     Ok(())
@@ -110,25 +110,25 @@ fn add_steps<'p, 'a>(
 /// The statements inside a statement that `next` follows.
 #[cycle(statements)]
 fn add_inner<'p, 'a>(
+    table: &mut Statements<'p, 'a>,
     next: Option<&'p Stmt<'a>>,
     stmt: &'p Stmt<'a>,
-    table: &mut Statements<'p, 'a>,
 ) -> Result<(), AllocError>
     ensures { OnOk result (table.new ≡ table.old ++ inner_in (option_copied next.entry) stmt.now stmt.now.basic) }
 {
     match &stmt.basic {
         Basic::Plain(_) | Basic::Goto(_) | Basic::Break => Ok(()),
-        Basic::If(options) => Ok(add_options(next, options.as_slice(), table)?),
+        Basic::If(options) => Ok(add_options(table, next, options.as_slice())?),
         Basic::Do(options) => {
             table.add(Some(stmt))?;
-            Ok(add_options(None, options.as_slice(), table)?)
+            Ok(add_options(table, None, options.as_slice())?)
         }
-        Basic::Block(body) => Ok(add_arm(next, body, table)?),
-        Basic::Atomic(body) => Ok(add_arm(None, body, table)?),
-        Basic::DStep(body) => Ok(add_arm(None, body, table)?),
+        Basic::Block(body) => Ok(add_arm(table, next, body)?),
+        Basic::Atomic(body) => Ok(add_arm(table, None, body)?),
+        Basic::DStep(body) => Ok(add_arm(table, None, body)?),
         Basic::Unless(main, escape) => {
-            add_arm(next, escape, table)?;
-            Ok(add_arm(None, main, table)?)
+            add_arm(table, next, escape)?;
+            Ok(add_arm(table, None, main)?)
         }
     }
 }
@@ -136,16 +136,16 @@ fn add_inner<'p, 'a>(
 /// The statements of options, from the last to the first.
 #[cycle(statements)]
 fn add_options<'p, 'a>(
+    table: &mut Statements<'p, 'a>,
     next: Option<&'p Stmt<'a>>,
     options: &'p [Seq<'a>],
-    table: &mut Statements<'p, 'a>,
 ) -> Result<(), AllocError>
     ensures { OnOk result (table.new ≡ table.old ++ inner_arms (option_copied next.entry) options.now) }
 {
     let mut left = options.len();
     while left > 0 {
         left -= 1;
-        add_arm(next, &options[left], table)?;
+        add_arm(table, next, &options[left])?;
     }
     Ok(())
 }
@@ -153,12 +153,12 @@ fn add_options<'p, 'a>(
 /// The statements of an arm, whose end has the number in front.
 #[cycle(statements)]
 fn add_arm<'p, 'a>(
+    table: &mut Statements<'p, 'a>,
     next: Option<&'p Stmt<'a>>,
     seq: &'p Seq<'a>,
-    table: &mut Statements<'p, 'a>,
 ) -> Result<(), AllocError>
     ensures { OnOk result (table.new ≡ table.old ++ inner_arm (option_copied next.entry) seq.now) }
 {
     table.add(next)?;
-    Ok(add_steps(next, seq.steps.as_slice(), table)?)
+    Ok(add_steps(table, next, seq.steps.as_slice())?)
 }

@@ -139,7 +139,7 @@ impl<'p, 'a> World<'p, 'a> {
             return Err(halt.why);
         }
         let before = self.live.process_count();
-        self.kept.keep_missed(&self.live);
+        KeptTexts::keep_missed(&self.live, &mut self.kept);
         self.live.forget();
         match take(&mut self.live, m, text) {
             Ok(()) => {
@@ -311,7 +311,7 @@ impl Machine for World<'_, '_> {
 
     #[inline(always)]
     fn show(&self, m: &Move, text: &mut Vec<u8>) -> Result<(), AllocError> {
-        self.kept.add_move(&self.live, *m, text)
+        KeptTexts::add_move(&self.live, &self.kept, *m, text)
     }
 
     fn origin(&self, m: &Move) -> (u32, u32) {

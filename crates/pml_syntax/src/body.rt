@@ -8,8 +8,9 @@ ghost use Rattle.pml_syntax.specs.ReadingStatements as reading;
 use crate::action::action;
 use crate::ahead::{is_declaration, is_label, skip_separators};
 use crate::boxes;
-use crate::counting::{alone, for_of, option_behind, select_of};
+use crate::counting::{for_of, select_of};
 use crate::declaration::{declaration, references};
+use crate::lists::{alone, behind};
 use crate::range::boxed_range;
 use crate::starts::{Opening, is_end, is_exclusive, is_separator, opening_of};
 use pml_expression::cursor::Cursor;
@@ -135,7 +136,7 @@ fn option_list<'a>(
     for _turn in 0..tokens.left() {
         tokens.expect(Kind::DoubleColon)?;
         let items = seq(alloc, depth, tokens)?;
-        found = option_behind(found, items)?;
+        found = behind(found, Seq { items })?;
         if !tokens.sees(Kind::DoubleColon) {
             return Ok(found);
         }

@@ -8,6 +8,7 @@ ghost use Rattle.promela_grammar.specs.Actions as grammar;
 ghost use Rattle.promela_grammar.specs.Models as loops;
 
 use crate::boxes;
+use crate::lists::{alone, behind, joined};
 use crate::starts::Opening;
 use pml_token::token::{Kind, Token};
 use pml_tree::room::room_for;
@@ -44,40 +45,6 @@ fn around<'a>(
     Tokens::made(alloc, found)
 }
 
-/// One item, as items.
-pub fn alone<'a>(alloc: Global, item: Item<'a>) -> Result<Items<Item<'a>>, AllocError>
-    ensures { IfOk result (λ r. r ≡ item.entry ∷ []) }
-{
-    let mut items = room_for(alloc, 1)?;
-    items.push(item)?;
-    Ok(items)
-}
-
-/// These items, and then those.
-fn joined<'a>(
-    alloc: Global,
-    items: Items<Item<'a>>,
-    more: Items<Item<'a>>,
-) -> Result<Items<Item<'a>>, AllocError>
-    ensures { IfOk result (λ r. r ≡ items.entry ++ more.entry) }
-{
-    let mut all = room_for(alloc, items.len().saturating_add(more.len()))?;
-    all.append(items)?;
-    all.append(more)?;
-    Ok(all)
-}
-
-/// These options, and then the one of these items.
-pub fn option_behind<'a>(
-    mut options: Items<Seq<'a>>,
-    items: Items<Item<'a>>,
-) -> Result<Items<Seq<'a>>, AllocError>
-    ensures { IfOk result (λ r. r ≡ options.entry ++ grammar.seq_of items.entry ∷ []) }
-{
-    options.push(Seq { items })?;
-    Ok(options)
-}
-
 /// Two options.
 fn two_options<'a>(
     alloc: Global,
@@ -86,8 +53,8 @@ fn two_options<'a>(
 ) -> Result<Items<Seq<'a>>, AllocError>
     ensures { IfOk result (λ r. r ≡ grammar.seq_of x.entry ∷ grammar.seq_of y.entry ∷ []) }
 {
-    let first = option_behind(room_for(alloc, 2)?, x)?;
-    option_behind(first, y)
+    let first = behind(room_for(alloc, 2)?, Seq { items: x })?;
+    behind(first, Seq { items: y })
 }
 
 /// A statement without labels, as items.

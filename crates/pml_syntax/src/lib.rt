@@ -8,6 +8,7 @@ mod boxes;
 mod counting;
 mod declaration;
 pub mod laws;
+mod lists;
 mod program;
 mod range;
 mod starts;

@@ -17,9 +17,9 @@ use run_state::body::Body;
 
 /// Whether an offer is a move by itself.
 pub(crate) fn can_be_alone(
+    body: &Body<'_, '_, '_>,
     view: &View<'_>,
     lossy: bool,
-    body: &Body<'_, '_, '_>,
     edge: Edge,
     basic: Option<&Basic<'_>>,
 ) -> bool
@@ -29,7 +29,7 @@ pub(crate) fn can_be_alone(
 {
     match basic {
         Some(Basic::Plain(action)) => can_be_taken(view, lossy, false, action),
-        Some(Basic::DStep(_)) => can_begin(view, lossy, body, edge.entry),
+        Some(Basic::DStep(_)) => can_begin(body, view, lossy, edge.entry),
         _ => true,
     }
 }

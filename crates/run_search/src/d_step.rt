@@ -39,9 +39,9 @@ fn is_taken(view: &View<'_>, lossy: bool, basic: Option<&Basic<'_>>) -> bool
 
 /// The first offer of a level inside a d_step that is no `else` and can be taken.
 fn first_plain(
+    body: &Body<'_, '_, '_>,
     view: &View<'_>,
     lossy: bool,
-    body: &Body<'_, '_, '_>,
     edges: &[Edge],
 ) -> Option<Edge>
     requires { IsBody body.now }
@@ -82,7 +82,7 @@ fn first_level<'p>(body: &Body<'_, 'p, '_>, node: usize) -> &'p [Edge]
 }
 
 /// The offer that is taken at a node inside a d_step, if one can be.
-pub fn choice(view: &View<'_>, lossy: bool, body: &Body<'_, '_, '_>, node: usize) -> Option<Edge>
+pub fn choice(body: &Body<'_, '_, '_>, view: &View<'_>, lossy: bool, node: usize) -> Option<Edge>
     requires { IsBody body.now }
     ensures { option_map (shows body.now) result ≡ first (choices lossy view.now.channels.now (seen view.now) (offers_at body.now node)) }
 {
@@ -90,25 +90,25 @@ pub fn choice(view: &View<'_>, lossy: bool, body: &Body<'_, '_, '_>, node: usize
         return None;
     }
     let edges = first_level(body, node);
-    match first_plain(view, lossy, body, edges) {
+    match first_plain(body, view, lossy, edges) {
         Some(edge) => Some(edge),
         None => first_else(body, edges),
     }
 }
 
 /// Whether something can be taken at a node inside a d_step.
-fn has_choice(view: &View<'_>, lossy: bool, body: &Body<'_, '_, '_>, node: usize) -> bool
+fn has_choice(body: &Body<'_, '_, '_>, view: &View<'_>, lossy: bool, node: usize) -> bool
     requires { IsBody body.now }
     ensures { result ≡ is_some (choices lossy view.now.channels.now (seen view.now) (offers_at body.now node)) }
 {
-    choice(view, lossy, body, node).is_some()
+    choice(body, view, lossy, node).is_some()
 }
 
 /// Whether something can be taken at the first node inside a d_step.
 pub(crate) fn can_begin(
+    body: &Body<'_, '_, '_>,
     view: &View<'_>,
     lossy: bool,
-    body: &Body<'_, '_, '_>,
     entry: Option<usize>,
 ) -> bool
     requires { IsBody body.now }
@@ -116,7 +116,7 @@ pub(crate) fn can_begin(
         result ≡ is_some (choices lossy view.now.channels.now (seen view.now) (levels_from b (maybe (point_at b) entry))) }
 {
     match entry {
-        Some(node) => has_choice(view, lossy, body, node),
+        Some(node) => has_choice(body, view, lossy, node),
         None => false,
     }
 }

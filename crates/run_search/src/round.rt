@@ -197,7 +197,7 @@ fn can_begin_alone(
     ensures { result ≡ alone_at live.now.state timeout body.now process edge.now }
 {
     let view = live.view(process, timeout);
-    can_be_alone(&view, live.is_lossy(), body, *edge, body.basic(*edge))
+    can_be_alone(body, &view, live.is_lossy(), *edge, body.basic(*edge))
 }
 
 /// Whether an offer of a process is a move by itself.

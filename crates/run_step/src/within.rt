@@ -60,7 +60,7 @@ fn chosen<'p, 'a>(
     ensures numbered { IfSome result (λ k. IsNumbered live.now.state process k.statement (option_copied k.basic)) }
 {
     let body = body_in(live, process)?;
-    let edge = choice(&live.view(process, timeout), live.is_lossy(), &body, node)?;
+    let edge = choice(&body, &live.view(process, timeout), live.is_lossy(), node)?;
     Some(Choice {
         basic: body.basic(edge),
         statement: edge.statement,

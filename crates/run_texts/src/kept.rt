@@ -107,24 +107,24 @@ impl<'p, 'a> KeptTexts<'p, 'a> {
 
     /// The text of the offer that a pick names, if it is kept.
     #[inline(always)]
-    fn get(&self, live: &Live<'_, '_>, pick: Pick) -> Option<&[u8]>
-        requires { self.now ≡ live.now.state.program }
+    fn get<'k>(live: &Live<'_, '_>, known: &'k Self, pick: Pick) -> Option<&'k [u8]>
+        requires { known.now ≡ live.now.state.program }
         ensures { IfSome result (λ text. text.now ≡ pick_text live.now.state pick) }
     {
         let seat = *seat_at(live.seats(), pick.process)?;
-        let number = *number_at(self.places.as_slice(), place_of(seat, pick))?;
-        let kept = text_at(self.texts.as_slice(), usize::from(number))?;
-        if !is_of(kept, seat, pick) {
+        let number = *number_at(known.places.as_slice(), place_of(seat, pick))?;
+        let one = text_at(known.texts.as_slice(), usize::from(number))?;
+        if !is_of(one, seat, pick) {
             return None;
         }
-        Some(kept.text.as_slice())
+        Some(one.text.as_slice())
     }
 
     /// Appends the text of the offer that a pick names, which is not kept, and remembers the pick if it may be.
     #[inline(never)]
     fn add_missed(
-        &self,
         live: &Live<'_, '_>,
+        known: &Self,
         pick: Pick,
         text: &mut Vec<u8>,
     ) -> Result<(), AllocError>
@@ -133,67 +133,77 @@ impl<'p, 'a> KeptTexts<'p, 'a> {
     {
         let begin = text.len();
         add_pick(live, pick, text)?;
-        if text.len().saturating_sub(begin) <= MOST_BYTES && self.texts.len() < PLACES {
-            self.missed.set(Some(pick));
+        if text.len().saturating_sub(begin) <= MOST_BYTES && known.texts.len() < PLACES {
+            known.missed.set(Some(pick));
         }
         Ok(())
     }
 
     /// Appends the text of the offer that a pick names.
     #[inline(always)]
-    pub fn add(&self, live: &Live<'_, '_>, pick: Pick, text: &mut Vec<u8>) -> Result<(), AllocError>
-        requires { self.now ≡ live.now.state.program }
+    pub fn add(
+        live: &Live<'_, '_>,
+        known: &Self,
+        pick: Pick,
+        text: &mut Vec<u8>,
+    ) -> Result<(), AllocError>
+        requires { known.now ≡ live.now.state.program }
         ensures added { OnOk result (text.new.items ≡ text.old.items ++ pick_text live.now.state pick) }
         ensures kept { OnErr result (StartsWith text.new.items text.old.items) }
     {
-        match self.get(live, pick) {
-            Some(kept) => text.extend_from_slice(kept),
-            None => self.add_missed(live, pick, text),
+        match Self::get(live, known, pick) {
+            Some(bytes) => text.extend_from_slice(bytes),
+            None => Self::add_missed(live, known, pick, text),
         }
     }
 
     // Keeps the text of the offer that a pick names, of a process that stands there, if its place is free.
-    fn keep_at(&mut self, live: &Live<'_, '_>, seat: Seat, pick: Pick) -> Result<(), AllocError>
-        requires model { self.old ≡ live.now.state.program }
+    fn keep_at(
+        live: &Live<'_, '_>,
+        known: &mut Self,
+        seat: Seat,
+        pick: Pick,
+    ) -> Result<(), AllocError>
+        requires model { known.old ≡ live.now.state.program }
         requires there { slice_get live.now.state.stands pick.process ≡ Some (stand_of live.now.state.program seat) }
-        ensures { self.new ≡ self.old }
+        ensures { known.new ≡ known.old }
     {
         let place = place_of(seat, pick);
-        let number = self.texts.len();
-        if number >= PLACES || place >= self.places.len() || self.places[place] != u16::MAX {
+        let number = known.texts.len();
+        if number >= PLACES || place >= known.places.len() || known.places[place] != u16::MAX {
             return Ok(());
         }
-        let mut text = Vec::new(*self.texts.allocator());
+        let mut text = Vec::new(*known.texts.allocator());
         add_pick(live, pick, &mut text)?;
-        self.texts.push(KeptText { pick, seat, text })?;
-        self.places[place] = number as u16;
+        known.texts.push(KeptText { pick, seat, text })?;
+        known.places[place] = number as u16;
         Ok(())
     }
 
     // Keeps the text of the offer that a pick names, if memory is not refused.
     #[inline(never)]
-    fn keep(&mut self, live: &Live<'_, '_>, pick: Pick) -> Result<(), AllocError>
-        requires { self.old ≡ live.now.state.program }
-        ensures { self.new ≡ self.old }
+    fn keep(live: &Live<'_, '_>, known: &mut Self, pick: Pick) -> Result<(), AllocError>
+        requires { known.old ≡ live.now.state.program }
+        ensures { known.new ≡ known.old }
     {
-        self.missed.set(None);
-        if self.places.is_empty() {
-            self.places.resize(PLACES, u16::MAX)?;
+        known.missed.set(None);
+        if known.places.is_empty() {
+            known.places.resize(PLACES, u16::MAX)?;
         }
         match seat_at(live.seats(), pick.process) {
-            Some(seat) => self.keep_at(live, *seat, pick),
+            Some(seat) => Self::keep_at(live, known, *seat, pick),
             None => Ok(()),
         }
     }
 
     /// Keeps the text that was last appended and was not kept.
     #[inline(always)]
-    pub fn keep_missed(&mut self, live: &Live<'_, '_>)
-        requires { self.old ≡ live.now.state.program }
-        ensures { self.new ≡ self.old }
+    pub fn keep_missed(live: &Live<'_, '_>, known: &mut Self)
+        requires { known.old ≡ live.now.state.program }
+        ensures { known.new ≡ known.old }
     {
-        if let Some(pick) = self.missed.get() {
-            let _ = self.keep(live, pick);
+        if let Some(pick) = known.missed.get() {
+            let _ = Self::keep(live, known, pick);
         }
     }
 
@@ -201,38 +211,38 @@ impl<'p, 'a> KeptTexts<'p, 'a> {
     #[inline(never)]
     #[tactic(auto, using(crate::proofs::Keeping::kept_behind))]
     fn add_pair(
-        &self,
         live: &Live<'_, '_>,
+        known: &Self,
         sender: Pick,
         receiver: Pick,
         text: &mut Vec<u8>,
     ) -> Result<(), AllocError>
-        requires { self.now ≡ live.now.state.program }
+        requires { known.now ≡ live.now.state.program }
         ensures added { let s = live.now.state in
             OnOk result (text.new.items ≡ text.old.items ++ (pick_text s sender ++ (codes " -> " ++ pick_text s receiver))) }
         ensures kept { OnErr result (StartsWith text.new.items text.old.items) }
     {
-        self.add(live, sender, text)?;
+        Self::add(live, known, sender, text)?;
         text.extend_from_slice(b" -> ")?;
-        self.add(live, receiver, text)
+        Self::add(live, known, receiver, text)
     }
 
     /// Appends the text of a move.
     #[inline(always)]
     pub fn add_move(
-        &self,
         live: &Live<'_, '_>,
+        known: &Self,
         m: Move,
         text: &mut Vec<u8>,
     ) -> Result<(), AllocError>
-        requires { self.now ≡ live.now.state.program }
+        requires { known.now ≡ live.now.state.program }
         ensures added { OnOk result (text.new.items ≡ text.old.items ++ move_text live.now.state m) }
         ensures kept { OnErr result (StartsWith text.new.items text.old.items) }
     {
         match m {
             Move::Death(process) => add_death(process, proctype_of(live, process), text),
-            Move::Alone(pick, _) => self.add(live, pick, text),
-            Move::Pair(sender, receiver, _) => self.add_pair(live, sender, receiver, text),
+            Move::Alone(pick, _) => Self::add(live, known, pick, text),
+            Move::Pair(sender, receiver, _) => Self::add_pair(live, known, sender, receiver, text),
         }
     }
 }

@@ -13,8 +13,8 @@ use view_walk::walk::{Walk, Went};
 
 // Takes the next of the choices. Whether there was one; at a fault its number.
 fn take_next(
-    rt: &HostRuntime,
     walk: &mut Walk<'_, '_>,
+    rt: &HostRuntime,
     replay: &mut Replay<SliceSource<'_>>,
     printed: &mut Vec<u8>,
 ) -> Result<(bool, Option<usize>), Broken>
@@ -36,8 +36,8 @@ fn take_next(
 
 // Takes choices. The move at which they come to a fault.
 fn take_all(
-    rt: &HostRuntime,
     walk: &mut Walk<'_, '_>,
+    rt: &HostRuntime,
     choices: &[u8],
     limit: usize,
     printed: &mut Vec<u8>,
@@ -46,7 +46,7 @@ fn take_all(
 {
     let mut replay = Replay::Read(ReplayReading::new(SliceSource::new(choices)));
     for _turn in walk.at()..limit {
-        let (goes_on, fault) = take_next(rt, walk, &mut replay, printed)?;
+        let (goes_on, fault) = take_next(walk, rt, &mut replay, printed)?;
         if !goes_on {
             return Ok(fault);
         }
@@ -56,8 +56,8 @@ fn take_all(
 
 // Follows a trail. The move at which it comes to a fault, and whether it was followed to its end.
 fn follow(
-    rt: &HostRuntime,
     walk: &mut Walk<'_, '_>,
+    rt: &HostRuntime,
     marks: &Marks,
     text: &[u8],
     limit: usize,
@@ -86,8 +86,8 @@ pub struct FirstTaken {
 
 // Takes what is to be taken first.
 pub fn take_first(
-    rt: &HostRuntime,
     walk: &mut Walk<'_, '_>,
+    rt: &HostRuntime,
     launch: &Launch,
     marks: &Marks,
     printed: &mut Vec<u8>,
@@ -95,11 +95,11 @@ pub fn take_first(
     ensures { SameModel walk.old walk.new }
 {
     if let Some(trail) = &launch.trail {
-        let (faulting, is_whole) = follow(rt, walk, marks, trail.as_slice(), launch.limit)?;
+        let (faulting, is_whole) = follow(walk, rt, marks, trail.as_slice(), launch.limit)?;
         return Ok(FirstTaken { faulting, is_whole });
     }
     let faulting = match &launch.choices {
-        Some(choices) => match take_all(rt, walk, choices.as_slice(), launch.limit, printed) {
+        Some(choices) => match take_all(walk, rt, choices.as_slice(), launch.limit, printed) {
             Ok(faulting) => faulting,
             Err(_) => return Err(AllocError),
         },

@@ -129,9 +129,9 @@ fn answer_one(
 
 // Answers requests until the client ends the session.
 fn answer_all(
+    walk: &mut Walk<'_, '_>,
     rt: &HostRuntime,
     frames: &mut Frames,
-    walk: &mut Walk<'_, '_>,
     session: &mut ClientSession,
     source: ModelSource<'_>,
 ) -> Result<Ended, AdapterEnd>
@@ -176,16 +176,17 @@ fn begin(
 }
 
 fn of_walk(
+    walk: &mut Walk<'_, '_>,
     rt: &HostRuntime,
     client: &mut Client,
     launch: &Launch,
     request: &Value,
     marks: &Marks,
-    walk: Walk<'_, '_>,
-) -> Result<Ended, AdapterEnd> {
-    let mut walk = walk;
+) -> Result<Ended, AdapterEnd>
+    ensures { SameModel walk.old walk.new }
+{
     let mut printed = Vec::new(rt.alloc());
-    let begun = take_first(rt, &mut walk, launch, marks, &mut printed)?;
+    let begun = take_first(walk, rt, launch, marks, &mut printed)?;
     let out = std::mem::replace(&mut client.out, Outbox::new(rt.alloc()));
     let mut session = ClientSession::new(out, choosing_of(request), launch.limit);
     begin(rt, &mut session, request, &begun, printed.as_slice())?;
@@ -193,36 +194,36 @@ fn of_walk(
         path: launch.path.as_str(),
         text: launch.shown(),
     };
-    answer_all(rt, &mut client.frames, &mut walk, &mut session, source)
+    answer_all(walk, rt, &mut client.frames, &mut session, source)
 }
 
 fn of_model(
+    checked: &Checked<'_>,
     rt: &HostRuntime,
     client: &mut Client,
     launch: &Launch,
     request: &Value,
     marks: &Marks,
-    checked: &Checked<'_>,
 ) -> Result<Ended, AdapterEnd> {
     match Walk::new(rt.alloc(), checked, launch.is_lossy) {
-        Ok(walk) => of_walk(rt, client, launch, request, marks, walk),
+        Ok(mut walk) => of_walk(&mut walk, rt, client, launch, request, marks),
         Err(_) => Err(AdapterEnd::Memory),
     }
 }
 
 fn of_tokens<'a>(
+    tokens: &'a [Token<'a>],
     rt: &HostRuntime,
     client: &mut Client,
     launch: &Launch,
     request: &Value,
-    tokens: &'a [Token<'a>],
 ) -> Result<Ended, AdapterEnd> {
     let mut marks = Marks::new(rt.alloc());
     if launch.trail.is_some() {
         marks.mark_all(tokens)?;
     }
     match checked_of(rt.alloc(), tokens) {
-        Ok(checked) => of_model(rt, client, launch, request, &marks, &checked),
+        Ok(checked) => of_model(&checked, rt, client, launch, request, &marks),
         Err(rejection) => rejected(rt, &mut client.out, launch, request, rejection),
     }
 }
@@ -234,7 +235,7 @@ fn of_launch(
     request: &Value,
 ) -> Result<Ended, AdapterEnd> {
     match expanded_of(rt.alloc(), launch.model.bytes.as_slice()) {
-        Ok(tokens) => of_tokens(rt, client, launch, request, tokens.as_slice()),
+        Ok(tokens) => of_tokens(tokens.as_slice(), rt, client, launch, request),
         Err(rejection) => rejected(rt, &mut client.out, launch, request, rejection),
     }
 }

@@ -2,7 +2,7 @@
 ghost use Rattle.std.specs.Prelude.{◌≡◌};
 ghost use Rattle.view_walk.specs.Walks.{SameModel};
 
-use crate::lines::{begin, go_on, run_lines};
+use crate::lines::{Outlet, begin, go_on, run_lines};
 use crate::opened::Files;
 use crate::output::show_lines;
 use crate::runs::{sheet_of, tell_choices, why_unread};
@@ -15,7 +15,6 @@ use std::io::{BufRead, BufReader};
 use view_json::lines::add_end;
 use view_run::lines::Sheet;
 use view_session::replay::{Replay, ReplayReading};
-use view_session::seen::picture_of;
 use view_walk::walk::Walk;
 use view_words::Wishes;
 
@@ -58,23 +57,16 @@ fn go_to(walk: &mut Walk<'_, '_>, step: usize) -> Result<(), AllocError>
 // Writes that a line asks for nothing.
 fn add_bad_line(walk: &Walk<'_, '_>, sheet: &mut Sheet) -> Result<(), AllocError> {
     let moves = walk.moves()?;
-    let picture = picture_of(walk.world());
+    let live = walk.world().live();
     let moves = moves.as_slice();
-    add_end(
-        &picture,
-        walk.at(),
-        "bad line",
-        moves,
-        None,
-        &mut sheet.lines,
-    );
+    add_end(live, walk.at(), "bad line", moves, None, &mut sheet.lines);
     Ok(())
 }
 
 // Writes the lines that answer a line.
 fn obey(
-    rt: &HostRuntime,
     walk: &mut Walk<'_, '_>,
+    rt: &HostRuntime,
     asked: &Wishes,
     line: &[u8],
     sheet: &mut Sheet,
@@ -94,14 +86,14 @@ fn obey(
     let limit = walk.at().saturating_add(most);
     let answers = SliceSource::new(choice.as_bytes());
     let mut replay = Replay::Read(ReplayReading::new(answers));
-    go_on(rt, walk, &mut replay, limit, false, sheet)?;
+    go_on(walk, rt, &mut replay, limit, &mut Outlet::shown(), sheet)?;
     Ok(())
 }
 
 // Shows what there is of the lines, behind the record of the walk.
 fn show_all(
-    rt: &HostRuntime,
     walk: &Walk<'_, '_>,
+    rt: &HostRuntime,
     files: &mut Files,
     sheet: &mut Sheet,
 ) -> Result<(), NoView> {
@@ -116,8 +108,8 @@ fn show_all(
 
 // Reads lines and answers them.
 fn answer_lines(
-    rt: &HostRuntime,
     walk: &mut Walk<'_, '_>,
+    rt: &HostRuntime,
     asked: &Wishes,
     files: &mut Files,
     sheet: &mut Sheet,
@@ -136,16 +128,16 @@ fn answer_lines(
             Ok(_) => {}
             Err(error) => return Err(failed(RunDevice::Input, error)),
         }
-        obey(rt, walk, asked, without_end(line.as_slice()), sheet)?;
-        show_all(rt, walk, files, sheet)?;
+        obey(walk, rt, asked, without_end(line.as_slice()), sheet)?;
+        show_all(walk, rt, files, sheet)?;
     }
     Ok(())
 }
 
 // A run that begins with the choices that it is given, and goes on by lines.
 pub fn run_asking(
-    rt: &HostRuntime,
     walk: &mut Walk<'_, '_>,
+    rt: &HostRuntime,
     replay: &mut Replay<ReadChoices>,
     asked: &Wishes,
     files: &mut Files,
@@ -153,10 +145,10 @@ pub fn run_asking(
     ensures { SameModel walk.old walk.new }
 {
     let mut sheet = sheet_of(rt, replay);
-    match run_lines(rt, walk, replay, asked, false, &mut sheet) {
+    match run_lines(walk, rt, replay, asked, &mut Outlet::shown(), &mut sheet) {
         Ok(end) => tell_choices(rt, asked, replay, end),
         Err(stop) => return Err(why_unread(stop, replay)),
     }
-    show_all(rt, walk, files, &mut sheet)?;
-    answer_lines(rt, walk, asked, files, &mut sheet)
+    show_all(walk, rt, files, &mut sheet)?;
+    answer_lines(walk, rt, asked, files, &mut sheet)
 }

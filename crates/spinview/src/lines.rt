@@ -1,5 +1,5 @@
 // The lines of a run.
-ghost use Rattle.std.specs.Prelude.{◌≡◌, IfOk, OnOk, ltb, if◌then◌else◌};
+ghost use Rattle.std.specs.Prelude.{◌≡◌, ◌≤◌, IfOk, OnOk, None, true, length, ltb, if◌then◌else◌};
 ghost use Rattle.promela_run.specs.World.{world_moves};
 ghost use Rattle.view_walk.specs.Walks.{SameModel};
 
@@ -9,10 +9,10 @@ use crate::stop::NoView;
 use crate::telling::shown_name;
 use devices::Source;
 use promela_run::moves::Move;
+use view_foreign::escaped::add_escaped;
 use view_json::lines::add_start;
 use view_run::lines::{Sheet, add_next, add_next_of};
 use view_session::replay::Replay;
-use view_session::seen::picture_of;
 use view_text::writer::Writer;
 use view_walk::walk::Walk;
 use view_words::Wishes;
@@ -22,9 +22,9 @@ pub fn begin(walk: &Walk<'_, '_>, asked: &Wishes, sheet: &mut Sheet) -> Result<V
     ensures { IfOk result (λ v. v.items ≡ world_moves walk.now.state) }
 {
     let moves = walk.moves()?;
-    let picture = picture_of(walk.world());
+    let live = walk.world().live();
     add_start(
-        &picture,
+        live,
         name_of(shown_name(asked)),
         asked.is_lossy,
         moves.as_slice(),
@@ -57,8 +57,8 @@ fn skip<S: Source>(
 // Goes behind the steps whose lines are not wanted, and writes the line of the state there, and the last lines of a run that ends on the way. Why it does;
 // the moves of that state are given back.
 fn begin_behind<S: Source>(
-    rt: &HostRuntime,
     walk: &mut Walk<'_, '_>,
+    rt: &HostRuntime,
     replay: &mut Replay<S>,
     asked: &Wishes,
     moves: &mut Vec<Move>,
@@ -87,33 +87,67 @@ fn most_before(moves: usize) -> usize
     if moves > MANY { 0 } else { AT_ONCE }
 }
 
-// Writes what there is of the lines, where they are more than so many bytes and are not kept for a page.
-fn flush(rt: &HostRuntime, is_kept: bool, most: usize, sheet: &mut Sheet) -> Result<(), NoView> {
+// Where the lines of a run go: to standard output, to a page, or to both.
+#[derive(Drop)]
+pub struct Outlet {
+    // whether they go to standard output
+    pub are_shown: bool,
+    // what is kept of them for a page, with their escapes
+    pub kept: Option<Writer>,
+}
+
+impl Outlet {
+    // To standard output.
+    pub fn shown() -> Outlet
+        ensures { result ≡ record { are_shown = true; kept = None } }
+    {
+        Outlet {
+            are_shown: true,
+            kept: None,
+        }
+    }
+}
+
+// Hands on what there is of the lines, where they are more than so many bytes. A page wants all items.
+pub fn flush(
+    rt: &HostRuntime,
+    outlet: &mut Outlet,
+    most: usize,
+    sheet: &mut Sheet,
+) -> Result<(), NoView>
+    ensures { OnOk result (length sheet.new.lines.text ≤ most) }
+{
     if sheet.lines.is_refused() || sheet.items.is_refused() {
         return Err(NoView::Memory);
     }
-    if !is_kept && sheet.lines.len() > most {
-        show_lines(rt, &sheet.lines)?;
-        sheet.lines.clear();
-        sheet.items.clear();
+    if sheet.lines.len() <= most {
+        return Ok(());
     }
+    if outlet.are_shown {
+        show_lines(rt, &sheet.lines)?;
+    }
+    match &mut outlet.kept {
+        Some(kept) => add_escaped(sheet.lines.bytes(), kept),
+        None => sheet.items.clear(),
+    }
+    sheet.lines.clear();
     Ok(())
 }
 
 // Takes steps until a walk has so many, or goes no further, and writes each. Why it goes no further.
 pub fn go_on<S: Source>(
-    rt: &HostRuntime,
     walk: &mut Walk<'_, '_>,
+    rt: &HostRuntime,
     replay: &mut Replay<S>,
     limit: usize,
-    is_kept: bool,
+    outlet: &mut Outlet,
     sheet: &mut Sheet,
 ) -> Result<&'static str, NoView>
     ensures { SameModel walk.old walk.new }
 {
     for _turn in 0..u64::MAX {
         let end = add_next(walk, replay, limit, sheet)?;
-        flush(rt, is_kept, AT_ONCE, sheet)?;
+        flush(rt, outlet, AT_ONCE, sheet)?;
         if let Some(end) = end {
             return Ok(end);
         }
@@ -141,23 +175,23 @@ fn go_first<S: Source>(
 
 // Writes the lines of a run: that of the state with which they begin, and those of its steps. Why it ends.
 pub fn run_lines<S: Source>(
-    rt: &HostRuntime,
     walk: &mut Walk<'_, '_>,
+    rt: &HostRuntime,
     replay: &mut Replay<S>,
     asked: &Wishes,
-    is_kept: bool,
+    outlet: &mut Outlet,
     sheet: &mut Sheet,
 ) -> Result<&'static str, NoView>
     ensures { SameModel walk.old walk.new }
 {
     let limit = asked.limit as usize;
     let mut moves = Vec::new(rt.alloc());
-    let end = begin_behind(rt, walk, replay, asked, &mut moves, sheet)?;
-    flush(rt, is_kept, most_before(moves.len()), sheet)?;
+    let end = begin_behind(walk, rt, replay, asked, &mut moves, sheet)?;
+    flush(rt, outlet, most_before(moves.len()), sheet)?;
     let end = go_first(walk, moves, replay, limit, end, sheet)?;
-    flush(rt, is_kept, AT_ONCE, sheet)?;
+    flush(rt, outlet, AT_ONCE, sheet)?;
     match end {
         Some(end) => Ok(end),
-        None => go_on(rt, walk, replay, limit, is_kept, sheet),
+        None => go_on(walk, rt, replay, limit, outlet, sheet),
     }
 }

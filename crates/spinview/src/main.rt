@@ -15,13 +15,14 @@ mod writing;
 
 ghost use Rattle.view_walk.specs.Walks.{SameModel};
 
-use opened::{Files, Opened, RunTexts, has_session, open_all};
+use opened::{Files, RunTexts, has_session, open_all};
 use output::show;
 use pml_check::Checked;
 use pml_play::{Rejection, checked_of, expanded_of};
 use pml_token::token::Token;
 use runs::run_all;
 use shown::run_session;
+use std::alloc::AllocError;
 use std::fs::{File, OpenFile};
 use std::process::ExitCode;
 use std::{env, fs, io};
@@ -65,78 +66,107 @@ fn rejected(rt: &HostRuntime, asked: &Wishes, texts: &RunTexts, rejection: Rejec
 
 // Follows the trail that is asked for, and says where it does not fit, and in a session what Spin said.
 fn along_trail(
+    walk: &mut Walk<'_, '_>,
     rt: &HostRuntime,
     asked: &Wishes,
     texts: &RunTexts,
     marks: &Marks,
-    walk: &mut Walk<'_, '_>,
 ) -> Result<Option<Led>, NoView>
     ensures { SameModel walk.old walk.new }
 {
     let (Some(name), Some(text)) = (&asked.trail, &texts.trail) else {
         return Ok(None);
     };
-    let (led, first) = follow(rt, asked, name.as_str(), text.as_slice(), marks, walk)?;
+    let (led, first) = follow(walk, rt, asked, name.as_str(), text.as_slice(), marks)?;
     if has_session(asked) {
         show(rt, &first)?;
     }
     Ok(Some(led))
 }
 
-fn view_walk(
+// Shows a walk: all of a run, or a session that goes through it.
+fn show_walk(
+    walk: &mut Walk<'_, '_>,
     rt: &HostRuntime,
     asked: &Wishes,
     texts: &RunTexts,
-    files: Files,
-    marks: &Marks,
-    walk: Walk<'_, '_>,
-) -> Result<(), NoView> {
-    let mut walk = walk;
-    let mut files = files;
+    files: &mut Files,
+    led: Option<Led>,
+) -> Result<(), NoView>
+    ensures { SameModel walk.old walk.new }
+{
+    if !has_session(asked) {
+        return run_all(walk, rt, asked, texts.shown(), files, led);
+    }
     let setting = Setting {
         text: texts.shown(),
         limit: asked.limit as usize,
     };
-    let led = along_trail(rt, asked, texts, marks, &mut walk)?;
-    let is_whole = !has_session(asked);
-    let seen = if is_whole {
-        run_all(rt, &mut walk, asked, texts.shown(), &mut files, led)
-    } else {
-        run_session(rt, &mut walk, asked, setting, &mut files, led)
-    };
-    if let Some(record) = &mut files.rec {
-        record.close(rt, walk.legs(), is_whole)?;
+    run_session(walk, rt, asked, setting, files, led)
+}
+
+// Closes the record of a walk that is over.
+fn close_record(
+    walk: &Walk<'_, '_>,
+    rt: &HostRuntime,
+    asked: &Wishes,
+    files: &mut Files,
+) -> Result<(), NoView> {
+    match &mut files.rec {
+        Some(record) => record.close(rt, walk.legs(), !has_session(asked)),
+        None => Ok(()),
     }
+}
+
+fn view_walk(
+    walk: &mut Walk<'_, '_>,
+    rt: &HostRuntime,
+    asked: &Wishes,
+    texts: &RunTexts,
+    files: &mut Files,
+    marks: &Marks,
+) -> Result<(), NoView>
+    ensures { SameModel walk.old walk.new }
+{
+    let led = along_trail(walk, rt, asked, texts, marks)?;
+    let seen = show_walk(walk, rt, asked, texts, files, led);
+    close_record(walk, rt, asked, files)?;
     seen
 }
 
 fn view_model(
+    checked: &Checked<'_>,
     rt: &HostRuntime,
     asked: &Wishes,
     texts: &RunTexts,
-    files: Files,
+    files: &mut Files,
     marks: &Marks,
-    checked: &Checked<'_>,
 ) -> Result<(), NoView> {
     match Walk::new(rt.alloc(), checked, asked.is_lossy) {
-        Ok(walk) => view_walk(rt, asked, texts, files, marks, walk),
+        Ok(mut walk) => view_walk(&mut walk, rt, asked, texts, files, marks),
         Err(_) => Err(NoView::Memory),
     }
 }
 
-fn view_tokens<'a>(
-    rt: &HostRuntime,
-    asked: &Wishes,
-    texts: &RunTexts,
-    files: Files,
-    tokens: &'a [Token<'a>],
-) -> Result<(), NoView> {
+// What a trail knows of the places of a model, where one is followed.
+fn marks_of(tokens: &[Token<'_>], rt: &HostRuntime, asked: &Wishes) -> Result<Marks, AllocError> {
     let mut marks = Marks::new(rt.alloc());
     if asked.trail.is_some() {
         marks.mark_all(tokens)?;
     }
+    Ok(marks)
+}
+
+fn view_tokens<'a>(
+    tokens: &'a [Token<'a>],
+    rt: &HostRuntime,
+    asked: &Wishes,
+    texts: &RunTexts,
+    files: &mut Files,
+) -> Result<(), NoView> {
+    let marks = marks_of(tokens, rt, asked)?;
     match checked_of(rt.alloc(), tokens) {
-        Ok(checked) => view_model(rt, asked, texts, files, &marks, &checked),
+        Ok(checked) => view_model(&checked, rt, asked, texts, files, &marks),
         Err(rejection) => Err(rejected(rt, asked, texts, rejection)),
     }
 }
@@ -145,17 +175,17 @@ fn view_text(
     rt: &HostRuntime,
     asked: &Wishes,
     texts: &RunTexts,
-    files: Files,
+    files: &mut Files,
 ) -> Result<(), NoView> {
     match expanded_of(rt.alloc(), texts.model.bytes.as_slice()) {
-        Ok(tokens) => view_tokens(rt, asked, texts, files, tokens.as_slice()),
+        Ok(tokens) => view_tokens(tokens.as_slice(), rt, asked, texts, files),
         Err(rejection) => Err(rejected(rt, asked, texts, rejection)),
     }
 }
 
 fn view(rt: &HostRuntime, asked: &Wishes) -> Result<(), NoView> {
-    let Opened { texts, files } = open_all(rt, asked)?;
-    view_text(rt, asked, &texts, files)
+    let mut opened = open_all(rt, asked)?;
+    view_text(rt, asked, &opened.texts, &mut opened.files)
 }
 
 // Holds the descriptors 0 to 2 where the caller has closed them, so that no file of a run takes the place of one.

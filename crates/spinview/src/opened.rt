@@ -171,27 +171,49 @@ fn add_standard(rt: &HostRuntime, held: &mut Held) -> Result<(), NoFile> {
     Ok(())
 }
 
+// The record that is asked for.
+fn record_asked(
+    rt: &HostRuntime,
+    asked: &Wishes,
+    held: &mut Held,
+) -> Result<Option<Record>, NoFile> {
+    match &asked.rec {
+        Some(name) => Ok(Some(Record::open(rt, name.as_str(), held)?)),
+        None => Ok(None),
+    }
+}
+
+// The page that is asked for.
+fn page_asked(
+    rt: &HostRuntime,
+    asked: &Wishes,
+    held: &mut Held,
+) -> Result<Option<PageFile>, NoFile> {
+    match &asked.page {
+        Some(name) => Ok(Some(PageFile::open(rt, name.as_str(), held)?)),
+        None => Ok(None),
+    }
+}
+
+// What is read beside the texts, and what is written. No file is another one of the run.
+fn files_asked(rt: &HostRuntime, asked: &Wishes, held: Held) -> Result<Files, NoFile> {
+    let mut files = Files {
+        choices: None,
+        rec: None,
+        page: None,
+        held,
+    };
+    files.choices = choices_asked(rt, asked, &mut files.held)?;
+    add_standard(rt, &mut files.held)?;
+    files.rec = record_asked(rt, asked, &mut files.held)?;
+    files.page = page_asked(rt, asked, &mut files.held)?;
+    Ok(files)
+}
+
 // Opens all: what is written keeps what it holds.
 pub fn open_all(rt: &HostRuntime, asked: &Wishes) -> Result<Opened, NoView> {
     let mut held = Held::new(rt.alloc());
     let texts = texts_of(rt, asked, &mut held)?;
-    let choices = choices_asked(rt, asked, &mut held)?;
-    add_standard(rt, &mut held)?;
-    let rec = match &asked.rec {
-        Some(name) => Some(Record::open(rt, name.as_str(), &mut held)?),
-        None => None,
-    };
-    let page = match &asked.page {
-        Some(name) => Some(PageFile::open(rt, name.as_str(), &mut held)?),
-        None => None,
-    };
-    Ok(Opened {
-        texts,
-        files: Files {
-            choices,
-            rec,
-            page,
-            held,
-        },
-    })
+    let files = files_asked(rt, asked, held)?;
+    Ok(Opened { texts, files })
 }

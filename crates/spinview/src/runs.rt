@@ -3,9 +3,9 @@ ghost use Rattle.std.specs.Prelude.{◌≡◌, [], false};
 ghost use Rattle.view_walk.specs.Walks.{SameModel};
 
 use crate::asking::run_asking;
-use crate::lines::run_lines;
+use crate::lines::{Outlet, flush, run_lines};
 use crate::opened::Files;
-use crate::output::{show, show_lines};
+use crate::output::show;
 use crate::serving::run_driven;
 use crate::stop::{NoView, RunDevice};
 use crate::telling::shown_name;
@@ -16,8 +16,7 @@ use program_files::telling::tell_misfit;
 use rand_pcg::Pcg32;
 use session::Answer;
 use std::io;
-use view_foreign::escaped::add_escaped;
-use view_page::page::{Contents, add_page};
+use view_page::page::Contents;
 use view_run::lines::Sheet;
 use view_run::next::is_misfit;
 use view_run::plain::run;
@@ -141,8 +140,8 @@ fn told(end: &'static str) -> Result<(), NoView> {
 
 // Writes the chart of a walk that ended so, in which so many processes lived at once.
 fn write_chart(
-    rt: &HostRuntime,
     walk: &mut Walk<'_, '_>,
+    rt: &HostRuntime,
     replay: &mut Replay<ReadChoices>,
     most: usize,
     end: &'static str,
@@ -164,8 +163,8 @@ fn write_chart(
 
 // Runs, and writes the chart.
 fn run_chart(
-    rt: &HostRuntime,
     walk: &mut Walk<'_, '_>,
+    rt: &HostRuntime,
     replay: &mut Replay<ReadChoices>,
     limit: usize,
 ) -> Result<&'static str, NoView>
@@ -173,38 +172,34 @@ fn run_chart(
 {
     let mut printed = Vec::new(rt.alloc());
     let ran = run(walk, replay, limit, &mut printed)?;
-    write_chart(rt, walk, replay, ran.most, ran.end)
+    write_chart(walk, rt, replay, ran.most, ran.end)
 }
 
-// Writes the page of a run.
+// Writes the page of a run whose lines were kept.
 fn write_page(
     rt: &HostRuntime,
     file: &mut PageFile,
     asked: &Wishes,
     model: &[u8],
-    sheet: &Sheet,
+    steps: &Writer,
+    lines: &Writer,
 ) -> Result<(), NoView> {
-    let mut page = Writer::new(rt.alloc());
-    let mut lines = Writer::new(rt.alloc());
-    add_escaped(sheet.lines.bytes(), &mut lines);
-    page.keep_refusal(&lines);
+    if steps.is_refused() || lines.is_refused() {
+        return Err(NoView::Memory);
+    }
     let contents = Contents {
         name: name_of(shown_name(asked)).as_bytes(),
         model,
-        steps: sheet.items.bytes(),
+        steps: steps.bytes(),
         lines: lines.bytes(),
     };
-    add_page(contents, &mut page);
-    if page.is_refused() {
-        return Err(NoView::Memory);
-    }
-    Ok(file.write(rt, page.bytes())?)
+    Ok(file.write(rt, contents)?)
 }
 
 // Writes the lines of a run, where they are asked for, and its page.
 fn run_sheet(
-    rt: &HostRuntime,
     walk: &mut Walk<'_, '_>,
+    rt: &HostRuntime,
     replay: &mut Replay<ReadChoices>,
     asked: &Wishes,
     model: &[u8],
@@ -214,12 +209,17 @@ fn run_sheet(
 {
     let mut sheet = sheet_of(rt, replay);
     sheet.has_items = page.is_some();
-    let end = run_lines(rt, walk, replay, asked, page.is_some(), &mut sheet)?;
-    if asked.form == RunForm::Json {
-        show_lines(rt, &sheet.lines)?;
-    }
-    if let Some(file) = page {
-        write_page(rt, file, asked, model, &sheet)?;
+    let mut outlet = Outlet {
+        are_shown: asked.form == RunForm::Json,
+        kept: match page {
+            Some(_) => Some(Writer::new(rt.alloc())),
+            None => None,
+        },
+    };
+    let end = run_lines(walk, rt, replay, asked, &mut outlet, &mut sheet)?;
+    flush(rt, &mut outlet, 0, &mut sheet)?;
+    if let (Some(file), Some(lines)) = (page, &outlet.kept) {
+        write_page(rt, file, asked, model, &sheet.items, lines)?;
     }
     trade_notes(replay, &mut sheet);
     Ok(end)
@@ -227,8 +227,8 @@ fn run_sheet(
 
 // Writes the steps of a run.
 fn run_steps(
-    rt: &HostRuntime,
     walk: &mut Walk<'_, '_>,
+    rt: &HostRuntime,
     replay: &mut Replay<ReadChoices>,
     limit: usize,
 ) -> Result<&'static str, NoView>
@@ -250,8 +250,8 @@ fn run_steps(
 
 // Shows a run in each form that is asked for. Why it ended.
 fn run_forms(
-    rt: &HostRuntime,
     walk: &mut Walk<'_, '_>,
+    rt: &HostRuntime,
     replay: &mut Replay<ReadChoices>,
     asked: &Wishes,
     model: &[u8],
@@ -261,24 +261,24 @@ fn run_forms(
 {
     let limit = asked.limit as usize;
     if asked.form == RunForm::Json || page.is_some() {
-        let end = run_sheet(rt, walk, replay, asked, model, page)?;
+        let end = run_sheet(walk, rt, replay, asked, model, page)?;
         if asked.form != RunForm::Chart {
             return Ok(end);
         }
         let steps = walk.legs().len();
         let most = most_alive(walk, steps)?;
-        return write_chart(rt, walk, replay, most, end);
+        return write_chart(walk, rt, replay, most, end);
     }
     match asked.form {
-        RunForm::Chart => run_chart(rt, walk, replay, limit),
-        _ => run_steps(rt, walk, replay, limit),
+        RunForm::Chart => run_chart(walk, rt, replay, limit),
+        _ => run_steps(walk, rt, replay, limit),
     }
 }
 
 // A run without a session, of its choices, or along the walk.
 pub fn run_all(
-    rt: &HostRuntime,
     walk: &mut Walk<'_, '_>,
+    rt: &HostRuntime,
     asked: &Wishes,
     model: &[u8],
     files: &mut Files,
@@ -289,12 +289,12 @@ pub fn run_all(
     walk.go_to(0)?;
     let mut replay = replay_of(rt, asked, files, led);
     if asked.asks {
-        return run_asking(rt, walk, &mut replay, asked, files);
+        return run_asking(walk, rt, &mut replay, asked, files);
     }
     if asked.serves {
-        return run_driven(rt, walk, &mut replay, asked, files);
+        return run_driven(walk, rt, &mut replay, asked, files);
     }
-    match run_forms(rt, walk, &mut replay, asked, model, &mut files.page) {
+    match run_forms(walk, rt, &mut replay, asked, model, &mut files.page) {
         Ok(end) => {
             tell_choices(rt, asked, &replay, end);
             told(end)

@@ -2,7 +2,7 @@
 ghost use Rattle.std.specs.Prelude.{◌≤◌, length};
 ghost use Rattle.view_walk.specs.Walks.{SameModel};
 
-use crate::lines::go_on;
+use crate::lines::{Outlet, go_on};
 use crate::opened::Files;
 use crate::output::show_lines;
 use crate::runs::{name_of, sheet_of, tell_choices, why_unread};
@@ -25,8 +25,8 @@ const AT_ONCE: usize = 60_000;
 
 // Shows what there is of the lines, behind the record of the walk.
 fn show_all(
-    rt: &HostRuntime,
     walk: &Walk<'_, '_>,
+    rt: &HostRuntime,
     files: &mut Files,
     sheet: &mut Sheet,
 ) -> Result<(), NoView> {
@@ -41,8 +41,8 @@ fn show_all(
 
 // Takes steps that a request asks for, and then asks.
 fn take_steps(
-    rt: &HostRuntime,
     walk: &mut Walk<'_, '_>,
+    rt: &HostRuntime,
     limit: usize,
     run: PendingSteps,
     sheet: &mut Sheet,
@@ -66,8 +66,8 @@ fn take_steps(
 
 // Writes the lines that answer a request.
 fn obey(
-    rt: &HostRuntime,
     walk: &mut Walk<'_, '_>,
+    rt: &HostRuntime,
     setting: LinesSetting<'_>,
     request: &Request,
     sheet: &mut Sheet,
@@ -76,15 +76,15 @@ fn obey(
 {
     match answer(walk, setting, request, sheet)? {
         Answered::Question => Ok(ask(walk, None, sheet)?),
-        Answered::Steps(run) => take_steps(rt, walk, setting.limit, run, sheet),
+        Answered::Steps(run) => take_steps(walk, rt, setting.limit, run, sheet),
         Answered::Wrong => Ok(()),
     }
 }
 
 // Writes the lines that answer a line.
 fn answer_line(
-    rt: &HostRuntime,
     walk: &mut Walk<'_, '_>,
+    rt: &HostRuntime,
     setting: LinesSetting<'_>,
     line: &[u8],
     sheet: &mut Sheet,
@@ -92,7 +92,7 @@ fn answer_line(
     ensures { SameModel walk.old walk.new }
 {
     match request_of(rt.alloc(), without_end(line)) {
-        Ok(request) => obey(rt, walk, setting, &request, sheet),
+        Ok(request) => obey(walk, rt, setting, &request, sheet),
         Err(UnreadRequest::Memory) => Err(NoView::Memory),
         Err(unread) => {
             add_error(unread.words().as_bytes(), &mut sheet.lines);
@@ -139,8 +139,8 @@ fn read_line<R: BufRead>(input: &mut R, line: &mut Vec<u8>) -> Result<bool, NoVi
 
 // Reads lines and answers them.
 fn answer_lines(
-    rt: &HostRuntime,
     walk: &mut Walk<'_, '_>,
+    rt: &HostRuntime,
     setting: LinesSetting<'_>,
     files: &mut Files,
     sheet: &mut Sheet,
@@ -156,16 +156,16 @@ fn answer_lines(
         if !read_line(&mut input, &mut line)? {
             break;
         }
-        answer_line(rt, walk, setting, line.as_slice(), sheet)?;
-        show_all(rt, walk, files, sheet)?;
+        answer_line(walk, rt, setting, line.as_slice(), sheet)?;
+        show_all(walk, rt, files, sheet)?;
     }
     Ok(())
 }
 
 // Takes the choices that are given first.
 fn take_first(
-    rt: &HostRuntime,
     walk: &mut Walk<'_, '_>,
+    rt: &HostRuntime,
     replay: &mut Replay<ReadChoices>,
     asked: &Wishes,
     sheet: &mut Sheet,
@@ -175,7 +175,14 @@ fn take_first(
     if asked.choices.is_none() && asked.trail.is_none() && asked.seed.is_none() {
         return Ok(());
     }
-    match go_on(rt, walk, replay, asked.limit as usize, false, sheet) {
+    match go_on(
+        walk,
+        rt,
+        replay,
+        asked.limit as usize,
+        &mut Outlet::shown(),
+        sheet,
+    ) {
         Ok(end) => {
             tell_choices(rt, asked, replay, end);
             Ok(())
@@ -186,8 +193,8 @@ fn take_first(
 
 // A run that begins with the choices that it is given, and that a program drives.
 pub fn run_driven(
-    rt: &HostRuntime,
     walk: &mut Walk<'_, '_>,
+    rt: &HostRuntime,
     replay: &mut Replay<ReadChoices>,
     asked: &Wishes,
     files: &mut Files,
@@ -201,8 +208,8 @@ pub fn run_driven(
     };
     let mut sheet = sheet_of(rt, replay);
     add_state(walk, setting, &mut sheet)?;
-    take_first(rt, walk, replay, asked, &mut sheet)?;
+    take_first(walk, rt, replay, asked, &mut sheet)?;
     ask(walk, None, &mut sheet)?;
-    show_all(rt, walk, files, &mut sheet)?;
-    answer_lines(rt, walk, setting, files, &mut sheet)
+    show_all(walk, rt, files, &mut sheet)?;
+    answer_lines(walk, rt, setting, files, &mut sheet)
 }

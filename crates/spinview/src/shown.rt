@@ -56,8 +56,8 @@ fn add_saved(walk: &Walk<'_, '_>, out: &mut Writer)
 
 // Saves the choices of a walk, and says whether that was done.
 fn save_as(
-    rt: &HostRuntime,
     walk: &Walk<'_, '_>,
+    rt: &HostRuntime,
     files: &Files,
     name: &str,
     session: &mut Session,
@@ -87,8 +87,8 @@ fn save_as(
 
 // Keeps the record of the walk, and then shows what there is to be shown of it.
 fn show_all(
-    rt: &HostRuntime,
     walk: &Walk<'_, '_>,
+    rt: &HostRuntime,
     files: &mut Files,
     session: &mut Session,
 ) -> Result<(), NoView> {
@@ -113,8 +113,8 @@ fn recover(walk: &mut Walk<'_, '_>, out: &mut Writer) -> Result<(), NoView>
 
 // Does what follows a line, which is shown piece by piece: no choice is made between two pieces. Whether the session goes on.
 fn follow<'l>(
-    rt: &HostRuntime,
     walk: &mut Walk<'_, '_>,
+    rt: &HostRuntime,
     setting: Setting<'_>,
     files: &mut Files,
     first: Result<Reply<'l>, AllocError>,
@@ -131,7 +131,7 @@ fn follow<'l>(
                 reply = go_further(walk, setting, command, &mut session.told);
             }
             Ok(Reply::Save(name)) => {
-                save_as(rt, walk, files, name, session)?;
+                save_as(walk, rt, files, name, session)?;
                 return Ok(true);
             }
             Ok(Reply::On) => return Ok(true),
@@ -152,8 +152,8 @@ fn is_save<'l>(first: &Result<Reply<'l>, AllocError>) -> bool {
 
 // Answers a line. Whether the session goes on.
 fn answer_line(
-    rt: &HostRuntime,
     walk: &mut Walk<'_, '_>,
+    rt: &HostRuntime,
     setting: Setting<'_>,
     files: &mut Files,
     line: &[u8],
@@ -165,15 +165,15 @@ fn answer_line(
     if !is_save(&first) {
         session.sure = None;
     }
-    let goes_on = follow(rt, walk, setting, files, first, session)?;
-    show_all(rt, walk, files, session)?;
+    let goes_on = follow(walk, rt, setting, files, first, session)?;
+    show_all(walk, rt, files, session)?;
     Ok(goes_on)
 }
 
 // Takes the next of the choices that are to be taken first, without its lines. What they say, where it is no step.
 fn take_next(
-    rt: &HostRuntime,
     walk: &mut Walk<'_, '_>,
+    rt: &HostRuntime,
     replay: &mut Replay<ReadChoices>,
     printed: &mut Vec<u8>,
 ) -> Result<Option<Answer>, NoView>
@@ -196,8 +196,8 @@ fn take_next(
 
 // Takes the choices that are to be taken first, up to the limit. What they say, where they end.
 fn take_all(
-    rt: &HostRuntime,
     walk: &mut Walk<'_, '_>,
+    rt: &HostRuntime,
     replay: &mut Replay<ReadChoices>,
     limit: usize,
 ) -> Result<Answer, NoView>
@@ -205,7 +205,7 @@ fn take_all(
 {
     let mut printed = Vec::new(rt.alloc());
     for _turn in walk.at()..limit {
-        if let Some(said) = take_next(rt, walk, replay, &mut printed)? {
+        if let Some(said) = take_next(walk, rt, replay, &mut printed)? {
             return Ok(said);
         }
     }
@@ -214,8 +214,8 @@ fn take_all(
 
 // Takes the choices of a file first, and says where they do not fit.
 fn take_first(
-    rt: &HostRuntime,
     walk: &mut Walk<'_, '_>,
+    rt: &HostRuntime,
     asked: &Wishes,
     files: &mut Files,
 ) -> Result<(), NoView>
@@ -225,7 +225,7 @@ fn take_first(
         return Ok(());
     };
     let mut replay = Replay::Read(ReplayReading::new(ReadChoices::new(choices)));
-    match take_all(rt, walk, &mut replay, asked.limit as usize) {
+    match take_all(walk, rt, &mut replay, asked.limit as usize) {
         Ok(said) => {
             tell_choices(rt, asked, &replay, end_of(said));
             Ok(())
@@ -236,8 +236,8 @@ fn take_first(
 
 // Shows where a session begins: behind its first choices, or at the end of a trail.
 fn begin_behind(
-    rt: &HostRuntime,
     walk: &mut Walk<'_, '_>,
+    rt: &HostRuntime,
     asked: &Wishes,
     files: &mut Files,
     along: Option<Along>,
@@ -251,7 +251,7 @@ fn begin_behind(
         resume(walk, limit, along, told)?;
         return Ok(());
     }
-    take_first(rt, walk, asked, files)?;
+    take_first(walk, rt, asked, files)?;
     begin(walk, limit, told)?;
     Ok(())
 }
@@ -266,8 +266,8 @@ pub fn without_end(line: &[u8]) -> &[u8] {
 
 // Reads lines and answers them.
 fn answer_lines(
-    rt: &HostRuntime,
     walk: &mut Walk<'_, '_>,
+    rt: &HostRuntime,
     setting: Setting<'_>,
     files: &mut Files,
     session: &mut Session,
@@ -292,8 +292,8 @@ fn answer_lines(
             Err(error) => return Err(failed(RunDevice::Input, error)),
         }
         if !answer_line(
-            rt,
             walk,
+            rt,
             setting,
             files,
             without_end(line.as_slice()),
@@ -307,8 +307,8 @@ fn answer_lines(
 
 // A session.
 pub fn run_session(
-    rt: &HostRuntime,
     walk: &mut Walk<'_, '_>,
+    rt: &HostRuntime,
     asked: &Wishes,
     setting: Setting<'_>,
     files: &mut Files,
@@ -325,7 +325,7 @@ pub fn run_session(
         along = Some(led.along);
         session.told.notes = led.notes;
     }
-    begin_behind(rt, walk, asked, files, along, &mut session.told)?;
-    show_all(rt, walk, files, &mut session)?;
-    answer_lines(rt, walk, setting, files, &mut session)
+    begin_behind(walk, rt, asked, files, along, &mut session.told)?;
+    show_all(walk, rt, files, &mut session)?;
+    answer_lines(walk, rt, setting, files, &mut session)
 }

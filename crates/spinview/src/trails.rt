@@ -101,10 +101,10 @@ pub struct Led {
 
 // What is known of the cycle that Spin said a trail to have, where it was followed so far.
 fn cycle_of(
+    walk: &mut Walk<'_, '_>,
     rt: &HostRuntime,
     said: &Said<'_>,
     came: &Came,
-    walk: &mut Walk<'_, '_>,
 ) -> Result<Option<Cycle>, NoView>
     ensures { SameModel walk.old walk.new }
 {
@@ -133,12 +133,12 @@ fn along_of(said: &Said<'_>, came: &Came, cycle: Option<Cycle>) -> Along {
 
 // Follows a trail. Where that leads, and what a session says first: what Spin said of the trail.
 pub fn follow(
+    walk: &mut Walk<'_, '_>,
     rt: &HostRuntime,
     asked: &Wishes,
     name: &str,
     text: &[u8],
     marks: &Marks,
-    walk: &mut Walk<'_, '_>,
 ) -> Result<(Led, Writer), NoView>
     ensures { SameModel walk.old walk.new }
 {
@@ -146,7 +146,7 @@ pub fn follow(
     let limit = asked.limit as usize;
     let came = follow_trail(walk, marks, text, limit, Vec::new(rt.alloc()))?;
     tell_trail(rt, name, &came, &said);
-    let cycle = cycle_of(rt, &said, &came, walk)?;
+    let cycle = cycle_of(walk, rt, &said, &came)?;
     let mut first = Writer::new(rt.alloc());
     add_said(&said, cycle, &mut first);
     let before = match cycle {

@@ -10,6 +10,8 @@ use std::fs::{File, OpenFile, OpenOptions};
 use std::io::Write;
 use std::os::unix::fs::FileExt;
 use std::{fs, io};
+use view_page::page::Contents;
+use view_page::pieces::Pieces;
 use view_session::record::add_record;
 use view_text::writer::Writer;
 use view_walk::leg::Leg;
@@ -150,6 +152,25 @@ fn beside(rt: &HostRuntime, real: &str) -> Result<Option<(File, String)>, AllocE
     Ok(None)
 }
 
+// Writes a page, piece by piece. How long it is.
+fn put_page(rt: &HostRuntime, file: &mut File, page: Contents<'_>) -> io::Result<u64> {
+    let mut pieces = Pieces::new(page);
+    let mut piece = Writer::new(rt.alloc());
+    let mut length: u64 = 0;
+    for _turn in 0..u64::MAX {
+        if !pieces.add_next(&mut piece) {
+            break;
+        }
+        if piece.is_refused() {
+            return Err(io::Error::from(io::ErrorKind::OutOfMemory));
+        }
+        file.write_all(piece.bytes())?;
+        length = length.saturating_add(piece.len() as u64);
+        piece.clear();
+    }
+    Ok(length)
+}
+
 impl PageFile {
     // Opens it. What it holds stays.
     pub fn open(rt: &HostRuntime, name: &str, held: &mut Held) -> Result<PageFile, NoFile> {
@@ -169,12 +190,12 @@ impl PageFile {
     }
 
     // Writes a page into the file itself.
-    fn write_over(&mut self, page: &[u8]) -> io::Result<()> {
+    fn write_over(&mut self, rt: &HostRuntime, page: Contents<'_>) -> io::Result<()> {
+        let length = put_page(rt, &mut self.file, page)?;
         if self.real.is_some() {
-            put_at(&self.file, page, 0)
-        } else {
-            self.file.write_all(page)
+            self.file.set_len(length)?;
         }
+        Ok(())
     }
 
     // Fills a file beside it, with its permissions, and puts that in its place.
@@ -184,17 +205,17 @@ impl PageFile {
         new: File,
         name: &str,
         real: &str,
-        page: &[u8],
+        page: Contents<'_>,
     ) -> io::Result<()> {
         let mut new = new;
         if let Ok(about) = self.file.metadata() {
             let _ = OpenFile::set_permissions(&new, about.permissions());
         }
-        new.write_all(page)?;
+        put_page(rt, &mut new, page)?;
         fs::rename(rt, name, real)
     }
 
-    fn put(&mut self, rt: &HostRuntime, page: &[u8]) -> io::Result<()> {
+    fn put(&mut self, rt: &HostRuntime, page: Contents<'_>) -> io::Result<()> {
         if let Some(real) = &self.real {
             if let Ok(Some((new, name))) = beside(rt, real.as_str()) {
                 let put = self.replace(rt, new, name.as_str(), real.as_str(), page);
@@ -204,11 +225,11 @@ impl PageFile {
                 return put;
             }
         }
-        self.write_over(page)
+        self.write_over(rt, page)
     }
 
     // Writes the page: the file holds what it held, or the whole page.
-    pub fn write(&mut self, rt: &HostRuntime, page: &[u8]) -> Result<(), NoFile> {
+    pub fn write(&mut self, rt: &HostRuntime, page: Contents<'_>) -> Result<(), NoFile> {
         match self.put(rt, page) {
             Ok(()) => Ok(()),
             Err(error) => Err(not_written(rt.alloc(), self.name.as_str(), error)),

@@ -7,11 +7,11 @@ ghost use Rattle.view_text.specs.Written.{Stays};
 
 use crate::cells::{add_path, add_value};
 use crate::made::made_for;
-use crate::picture::Picture;
 use crate::processes::add_name;
 use pml_channel::channel::Channel;
 use pml_program::form::Form;
 use promela_run::live_channel::LiveChannel;
+use run_state::live::Live;
 use view_text::writer::Writer;
 
 fn channel_in(channels: &[LiveChannel], number: usize) -> Option<&Channel>
@@ -24,18 +24,18 @@ fn channel_in(channels: &[LiveChannel], number: usize) -> Option<&Channel>
 }
 
 /// The channel with this number, from 1 on.
-pub fn channel_at<'w>(picture: &Picture<'w, '_, '_>, number: usize) -> Option<&'w Channel>
-    ensures { option_copied result ≡ channel_at picture.now.channels (pos number) }
+pub fn channel_at<'w>(live: &'w Live<'_, '_>, number: usize) -> Option<&'w Channel>
+    ensures { option_copied result ≡ channel_at live.now.state.channels (pos number) }
 {
-    channel_in(picture.live().channels(), number)
+    channel_in(live.channels(), number)
 }
 
 // Writes whose a cell is: `P[2].` of a process.
-fn add_owner(picture: &Picture<'_, '_, '_>, frame: usize, out: &mut Writer)
+fn add_owner(live: &Live<'_, '_>, frame: usize, out: &mut Writer)
     ensures { Stays out.old out.new }
 {
     if frame > 0 {
-        add_name(picture, frame - 1, out);
+        add_name(live, frame - 1, out);
         out.add(b"[");
         out.number(frame - 1);
         out.add(b"].");
@@ -43,14 +43,14 @@ fn add_owner(picture: &Picture<'_, '_, '_>, frame: usize, out: &mut Writer)
 }
 
 /// Writes the name of a channel, by the cell that it was made for: `q[1]`, or `P[2].q` of a process. Whether it has one.
-pub fn add_channel_name(picture: &Picture<'_, '_, '_>, number: usize, out: &mut Writer) -> bool
+pub fn add_channel_name(live: &Live<'_, '_>, number: usize, out: &mut Writer) -> bool
     ensures { Stays out.old out.new }
 {
-    let Some(place) = made_for(picture, number) else {
+    let Some(place) = made_for(live, number) else {
         return false;
     };
-    add_owner(picture, place.frame, out);
-    add_path(picture, place, out);
+    add_owner(live, place.frame, out);
+    add_path(live, place, out);
     true
 }
 // Writes `chan N`.
@@ -62,32 +62,32 @@ fn add_number(number: usize, out: &mut Writer)
 }
 
 /// Writes the name of a channel without its process, or `chan N`.
-pub fn add_short_name(picture: &Picture<'_, '_, '_>, number: usize, out: &mut Writer)
+pub fn add_short_name(live: &Live<'_, '_>, number: usize, out: &mut Writer)
     ensures { Stays out.old out.new }
 {
-    match made_for(picture, number) {
-        Some(place) => add_path(picture, place, out),
+    match made_for(live, number) {
+        Some(place) => add_path(live, place, out),
         None => add_number(number, out),
     }
 }
 
 /// Writes `chan N NAME`.
-pub fn add_channel(picture: &Picture<'_, '_, '_>, number: usize, out: &mut Writer)
+pub fn add_channel(live: &Live<'_, '_>, number: usize, out: &mut Writer)
     ensures { Stays out.old out.new }
 {
     add_number(number, out);
     let mut name = Writer::new(out.allocator());
-    if add_channel_name(picture, number, &mut name) {
+    if add_channel_name(live, number, &mut name) {
         out.add(b" ");
         out.join(&name);
     }
 }
 
 /// Writes the name of a channel, or `chan N` where it has none.
-pub fn add_channel_word(picture: &Picture<'_, '_, '_>, number: usize, out: &mut Writer)
+pub fn add_channel_word(live: &Live<'_, '_>, number: usize, out: &mut Writer)
     ensures { Stays out.old out.new }
 {
-    if !add_channel_name(picture, number, out) {
+    if !add_channel_name(live, number, out) {
         add_number(number, out);
     }
 }
@@ -101,7 +101,7 @@ fn form_of(types: &[Form], at: usize) -> Form {
 
 /// Writes the fields of a message, with this between them: `ping, 1`.
 pub fn add_fields(
-    picture: &Picture<'_, '_, '_>,
+    live: &Live<'_, '_>,
     types: &[Form],
     fields: &[i32],
     between: &[u8],
@@ -113,15 +113,15 @@ pub fn add_fields(
         if i > 0 {
             out.add(between);
         }
-        add_value(picture, form_of(types, i), fields[i], out);
+        add_value(live, form_of(types, i), fields[i], out);
     }
 }
 
 /// Writes a message: `(ping, 1)`.
-pub fn add_message(picture: &Picture<'_, '_, '_>, types: &[Form], fields: &[i32], out: &mut Writer)
+pub fn add_message(live: &Live<'_, '_>, types: &[Form], fields: &[i32], out: &mut Writer)
     ensures { Stays out.old out.new }
 {
     out.add(b"(");
-    add_fields(picture, types, fields, b", ", out);
+    add_fields(live, types, fields, b", ", out);
     out.add(b")");
 }

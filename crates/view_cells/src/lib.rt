@@ -4,5 +4,4 @@
 pub mod cells;
 pub mod channels;
 pub mod made;
-pub mod picture;
 pub mod processes;

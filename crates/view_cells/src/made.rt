@@ -1,12 +1,12 @@
 //! For which cell a channel was made: the k-th channel of a frame is that of the k-th cell with a channel initialiser of its owner.
 
 use crate::cells::{cell_count, slot_at, variable_count};
-use crate::picture::Picture;
 use pml_program::form::Form;
 use pml_program::program::{Fields, Initial, Slot};
 use promela_process::place::Place;
 use promela_run::live_channel::LiveChannel;
 use run_layout::typedefs::Typedefs;
+use run_state::live::Live;
 
 // What is found of the k-th channel in a variable: the cell that it was made for, or of how many the variables behind it are to be passed over.
 #[derive(Clone, Copy)]
@@ -37,7 +37,7 @@ fn is_making(typedef: &Fields<'_>) -> bool {
 }
 
 // Whether channels may be made for cells of a variable.
-fn can_make(typedefs: &[Fields<'_>], slot: &Slot<'_>) -> bool {
+fn can_make<'w>(typedefs: &'w [Fields<'w>], slot: &'w Slot<'_>) -> bool {
     if makes(slot) {
         return true;
     }
@@ -61,15 +61,15 @@ fn found_in(typedefs: &Typedefs<'_, '_>, slot: &Slot<'_>, cells: usize, k: usize
     Found::Left(left)
 }
 
-fn found_at(picture: &Picture<'_, '_, '_>, frame: usize, variable: usize, k: usize) -> Found {
-    let Some(slot) = slot_at(picture, frame, variable) else {
+fn found_at(live: &Live<'_, '_>, frame: usize, variable: usize, k: usize) -> Found {
+    let Some(slot) = slot_at(live, frame, variable) else {
         return Found::Left(k);
     };
-    if !can_make(picture.program().typedefs.as_slice(), slot) {
+    if !can_make(live.program().typedefs.as_slice(), slot) {
         return Found::Left(k);
     }
-    let cells = cell_count(picture, frame, variable);
-    found_in(picture.tables().typedefs(), slot, cells, k)
+    let cells = cell_count(live, frame, variable);
+    found_in(live.tables().typedefs(), slot, cells, k)
 }
 
 // The frame of a channel, counted from 0.
@@ -90,10 +90,10 @@ fn older(channels: &[LiveChannel], frame: usize, count: usize) -> usize {
 }
 
 // The k-th cell of a frame for which a channel is made.
-fn nth_made(picture: &Picture<'_, '_, '_>, frame: usize, k: usize) -> Option<Place> {
+fn nth_made(live: &Live<'_, '_>, frame: usize, k: usize) -> Option<Place> {
     let mut k = k;
-    for variable in 0..variable_count(picture, frame) {
-        match found_at(picture, frame, variable, k) {
+    for variable in 0..variable_count(live, frame) {
+        match found_at(live, frame, variable, k) {
             Found::At(cell) => {
                 return Some(Place {
                     frame,
@@ -108,11 +108,11 @@ fn nth_made(picture: &Picture<'_, '_, '_>, frame: usize, k: usize) -> Option<Pla
 }
 
 /// The cell for which the channel with this number was made.
-pub fn made_for(picture: &Picture<'_, '_, '_>, number: usize) -> Option<Place> {
+pub fn made_for(live: &Live<'_, '_>, number: usize) -> Option<Place> {
     if number == 0 {
         return None;
     }
-    let channels = picture.live().channels();
+    let channels = live.channels();
     let frame = frame_of(channels, number - 1)?;
-    nth_made(picture, frame, older(channels, frame, number - 1))
+    nth_made(live, frame, older(channels, frame, number - 1))
 }

@@ -10,7 +10,6 @@ ghost use Rattle.promela_run.specs.World.{sort_of_process as proctype_in};
 ghost use Rattle.view_text.specs.Written.{Adds};
 ghost use Rattle.view_cells.specs.Processes.{name_of, line_by, line_of};
 
-use crate::picture::Picture;
 use pml_program::program::{Proctype, Program};
 use run_state::body::Body;
 use run_state::live::Live;
@@ -24,27 +23,18 @@ fn proctype_at<'p, 'a>(program: &'p Program<'a>, kind: usize) -> Option<&'p Proc
     program.proctypes.as_slice().get(kind)
 }
 
-fn proctype_in<'p, 'a>(live: &Live<'p, 'a>, process: usize) -> Option<&'p Proctype<'a>>
+/// The proctype of a process.
+pub fn proctype_of<'p, 'a>(live: &Live<'p, 'a>, process: usize) -> Option<&'p Proctype<'a>>
     ensures { option_copied result ≡ proctype_in live.now.state process }
 {
     proctype_at(live.program(), seat_at(live.seats(), process)?.sort)
 }
 
-/// The proctype of a process.
-pub fn proctype_of<'p, 'a>(
-    picture: &Picture<'_, 'p, 'a>,
-    process: usize,
-) -> Option<&'p Proctype<'a>>
-    ensures { option_copied result ≡ proctype_in picture.now process }
-{
-    proctype_in(picture.live(), process)
-}
-
 /// Writes the name of a process's proctype, or `:init:`.
-pub fn add_name(picture: &Picture<'_, '_, '_>, process: usize, out: &mut Writer)
-    ensures { Adds out.old out.new (name_of picture.now process) }
+pub fn add_name(live: &Live<'_, '_>, process: usize, out: &mut Writer)
+    ensures { Adds out.old out.new (name_of live.now.state process) }
 {
-    if let Some(proctype) = proctype_of(picture, process) {
+    if let Some(proctype) = proctype_of(live, process) {
         let mut text = out.take();
         let answer = proctype_name(&proctype.name, &mut text);
         out.put(text, answer);
@@ -52,13 +42,13 @@ pub fn add_name(picture: &Picture<'_, '_, '_>, process: usize, out: &mut Writer)
 }
 
 /// Writes `proc P (NAME)`.
-pub fn add_process(picture: &Picture<'_, '_, '_>, process: usize, out: &mut Writer)
-    ensures { Adds out.old out.new (codes "proc " ++ (decimal process ++ (codes " (" ++ (name_of picture.now process ++ codes ")")))) }
+pub fn add_process(live: &Live<'_, '_>, process: usize, out: &mut Writer)
+    ensures { Adds out.old out.new (codes "proc " ++ (decimal process ++ (codes " (" ++ (name_of live.now.state process ++ codes ")")))) }
 {
     out.add(b"proc ");
     out.number(process);
     out.add(b" (");
-    add_name(picture, process, out);
+    add_name(live, process, out);
     out.add(b")");
 }
 
@@ -84,20 +74,14 @@ fn line_at_seat(live: &Live<'_, '_>, seat: Seat) -> u32
     }
 }
 
-fn line_in_live(live: &Live<'_, '_>, process: usize) -> u32
+/// The line of what stands first in a process, or that of its closing brace.
+pub fn line_of(live: &Live<'_, '_>, process: usize) -> u32
     ensures { result ≡ line_of live.now.state process }
 {
     match seat_at(live.seats(), process) {
         Some(seat) => line_at_seat(live, *seat),
         None => 0,
     }
-}
-
-/// The line of what stands first in a process, or that of its closing brace.
-pub fn line_of(picture: &Picture<'_, '_, '_>, process: usize) -> u32
-    ensures { result ≡ line_of picture.now process }
-{
-    line_in_live(picture.live(), process)
 }
 
 fn is_closed(live: &Live<'_, '_>, seat: Seat) -> bool {
@@ -117,9 +101,9 @@ fn has_line(live: &Live<'_, '_>, kind: usize, line: u32) -> bool {
 }
 
 /// Whether some process can stand at a line: before a statement that begins there, or at its closing brace.
-pub fn is_standing_line(picture: &Picture<'_, '_, '_>, line: u32) -> bool {
-    for kind in 0..picture.program().proctypes.len() {
-        if has_line(picture.live(), kind, line) {
+pub fn is_standing_line(live: &Live<'_, '_>, line: u32) -> bool {
+    for kind in 0..live.program().proctypes.len() {
+        if has_line(live, kind, line) {
             return true;
         }
     }
@@ -127,9 +111,9 @@ pub fn is_standing_line(picture: &Picture<'_, '_, '_>, line: u32) -> bool {
 }
 
 /// Whether nothing is left to do in a process.
-pub fn is_at_brace(picture: &Picture<'_, '_, '_>, process: usize) -> bool {
-    match seat_at(picture.live().seats(), process) {
-        Some(seat) => is_closed(picture.live(), *seat),
+pub fn is_at_brace(live: &Live<'_, '_>, process: usize) -> bool {
+    match seat_at(live.seats(), process) {
+        Some(seat) => is_closed(live, *seat),
         None => true,
     }
 }

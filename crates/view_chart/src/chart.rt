@@ -4,8 +4,8 @@ ghost use Rattle.view_text.specs.Written.{Stays};
 
 use crate::row::ChartRow;
 use promela_run::moves::Move;
+use run_state::live::Live;
 use view_cells::channels::{add_fields, add_short_name, channel_at};
-use view_cells::picture::Picture;
 use view_cells::processes::add_name;
 use view_text::writer::Writer;
 use view_waits::transfer::{Does, Transfer};
@@ -20,14 +20,14 @@ pub fn width_of(most: usize) -> usize {
 }
 
 // Writes the name of a channel, a sign, and the fields of a message: `q!1,2`.
-fn add_label(picture: &Picture<'_, '_, '_>, transfer: &Transfer, sign: &[u8], out: &mut Writer)
+fn add_label(live: &Live<'_, '_>, transfer: &Transfer, sign: &[u8], out: &mut Writer)
     ensures { Stays out.old out.new }
 {
-    add_short_name(picture, transfer.channel, out);
+    add_short_name(live, transfer.channel, out);
     out.add(sign);
-    if let Some(channel) = channel_at(picture, transfer.channel) {
+    if let Some(channel) = channel_at(live, transfer.channel) {
         add_fields(
-            picture,
+            live,
             channel.types(),
             transfer.message.as_slice(),
             b",",
@@ -37,17 +37,11 @@ fn add_label(picture: &Picture<'_, '_, '_>, transfer: &Transfer, sign: &[u8], ou
 }
 
 /// Writes the row of a process that begins.
-pub fn add_birth(
-    picture: &Picture<'_, '_, '_>,
-    width: usize,
-    step: usize,
-    process: usize,
-    out: &mut Writer,
-)
+pub fn add_birth(live: &Live<'_, '_>, width: usize, step: usize, process: usize, out: &mut Writer)
     ensures { Stays out.old out.new }
 {
     let mut label = Writer::new(out.allocator());
-    add_name(picture, process, &mut label);
+    add_name(live, process, &mut label);
     label.add(b" ");
     label.number(process);
     let mut row = ChartRow::new(out.allocator(), width, step);
@@ -98,7 +92,7 @@ fn sign_of(does: Does) -> Option<&'static str> {
 
 /// Writes the row of a move of this state, if it has one: it passes a message, or ends a process.
 pub fn add_row(
-    picture: &Picture<'_, '_, '_>,
+    live: &Live<'_, '_>,
     width: usize,
     step: usize,
     m: &Move,
@@ -114,8 +108,8 @@ pub fn add_row(
         return;
     };
     let mut label = Writer::new(out.allocator());
-    add_label(picture, transfer, sign.as_bytes(), &mut label);
-    let alive = picture.process_count();
+    add_label(live, transfer, sign.as_bytes(), &mut label);
+    let alive = live.process_count();
     let mut row = ChartRow::new(out.allocator(), width, step);
     match m {
         Move::Pair(sender, receiver, _) => {

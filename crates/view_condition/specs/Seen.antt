@@ -85,8 +85,8 @@ all_of s subjects = record {
 abbrev pub seen : Overview → Reading
 seen w = record {
   frame = λ local. 0;
-  cells = λ frame variable. size_by w.picture.now (slice_get w.subjects.now variable);
-  holds = λ p. number_by w.picture.now (slice_get w.subjects.now p.variable) p.cell;
+  cells = λ frame variable. size_by w.live.now.state (slice_get w.subjects.now variable);
+  holds = λ p. number_by w.live.now.state (slice_get w.subjects.now p.variable) p.cell;
   pid = pos 0;
   process_count = (view.seen w.view).process_count;
   timeout = false;

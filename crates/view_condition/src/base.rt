@@ -1,13 +1,16 @@
 //! What the first names of a reference lead to.
 
+ghost use Rattle.std.specs.Prelude.{◌≡◌, None, IfOk, IfSome};
+ghost use Rattle.view_condition.specs.declared.subject.StateSubject.TheVariants.{Local};
+
 use crate::names::{DeclaredVariable, constant_named, declared_as, sort_named};
 use crate::places::{LABEL, LINE};
 use crate::subject::{Spot, StateSubject, TypedProcess};
 use crate::unread::{Flaw, Unread, flawed};
 use check_uses::arithmetic::read;
 use pml_tree::tree::{Expr, Reference, Step};
+use run_state::live::Live;
 use std::alloc::Global;
-use view_cells::picture::Picture;
 use view_cells::processes::is_standing_line;
 use view_labels::labels::node_of_label;
 use view_labels::lines::can_stand_at;
@@ -26,7 +29,9 @@ impl NamedVariable {
     }
 
     /// The variable from its first cell on.
-    pub fn whole(self) -> DeclaredVariable {
+    pub fn whole(self) -> DeclaredVariable
+        ensures { result.offset ≡ 0 }
+    {
         DeclaredVariable {
             offset: 0,
             ..self.declared
@@ -65,19 +70,39 @@ fn place_in(step: &Step<'_>) -> u32 {
     }
 }
 
-// That somebody stands at a line, whoever it is.
-fn line_fact(
-    step: &Step<'_>,
-    rest: &[Step<'_>],
-    picture: &Picture<'_, '_, '_>,
-) -> Result<Base, Unread> {
-    if let [field, ..] = rest {
-        return Err(flawed(Flaw::Field, field.name.line()));
+// The index of a step, where that is a number alone, and where it stands.
+#[derive(Clone, Copy)]
+struct StepIndex {
+    number: Option<u32>,
+    place: u32,
+}
+
+fn index_in(step: &Step<'_>) -> StepIndex {
+    StepIndex {
+        number: number_in(step),
+        place: place_in(step),
     }
-    match number_in(step) {
-        Some(line) if is_standing_line(picture, line) => Ok(Base::Fact(StateSubject::Line(line))),
-        Some(_) => Err(flawed(Flaw::Line, place_in(step))),
-        None => Err(flawed(Flaw::Number, place_in(step))),
+}
+
+// Where the first of these steps stands, if there is one.
+fn first_line(steps: &[Step<'_>]) -> Option<u32> {
+    match steps {
+        [first, ..] => Some(first.name.line()),
+        [] => None,
+    }
+}
+
+// That somebody stands at a line, whoever it is; nothing may stand behind it.
+fn line_fact(live: &Live<'_, '_>, index: StepIndex, behind: Option<u32>) -> Result<Base, Unread>
+    ensures { IfOk result (λ _. behind ≡ None) }
+{
+    if let Some(line) = behind {
+        return Err(flawed(Flaw::Field, line));
+    }
+    match index.number {
+        Some(line) if is_standing_line(live, line) => Ok(Base::Fact(StateSubject::Line(line))),
+        Some(_) => Err(flawed(Flaw::Line, index.place)),
+        None => Err(flawed(Flaw::Number, index.place)),
     }
 }
 
@@ -98,34 +123,36 @@ impl Named {
     }
 }
 
-// That who is named stands at a line.
+// That who is named stands at a line; nothing may stand behind it.
 fn at_line(
+    live: &Live<'_, '_>,
     named: Named,
-    step: &Step<'_>,
-    rest: &[Step<'_>],
-    picture: &Picture<'_, '_, '_>,
-) -> Result<Base, Unread> {
-    if let [field, ..] = rest {
-        return Err(flawed(Flaw::Field, field.name.line()));
+    index: StepIndex,
+    behind: Option<u32>,
+) -> Result<Base, Unread>
+    ensures { IfOk result (λ _. behind ≡ None) }
+{
+    if let Some(line) = behind {
+        return Err(flawed(Flaw::Field, line));
     }
-    match number_in(step) {
-        Some(line) if can_stand_at(picture, named.sort, line) => Ok(named.at(Spot::Line(line))),
-        Some(line) if is_standing_line(picture, line) => {
-            Err(flawed(Flaw::OtherLine, place_in(step)))
-        }
-        Some(_) => Err(flawed(Flaw::Line, place_in(step))),
-        None => Err(flawed(Flaw::Number, place_in(step))),
+    match index.number {
+        Some(line) if can_stand_at(live, named.sort, line) => Ok(named.at(Spot::Line(line))),
+        Some(line) if is_standing_line(live, line) => { Err(flawed(Flaw::OtherLine, index.place)) }
+        Some(_) => Err(flawed(Flaw::Line, index.place)),
+        None => Err(flawed(Flaw::Number, index.place)),
     }
 }
 
-// That who is named stands at a label.
-fn at_label(
-    alloc: Global,
-    named: Named,
-    rest: &[Step<'_>],
-    picture: &Picture<'_, '_, '_>,
-) -> Result<Base, Unread> {
-    let [label, behind @ ..] = rest else {
+// A label that is named, and where.
+#[derive(Clone, Copy)]
+struct LabelName<'n> {
+    text: &'n [u8],
+    line: u32,
+}
+
+// The label that these steps name; nothing may stand behind it.
+fn label_in<'n>(steps: &'n [Step<'_>]) -> Result<LabelName<'n>, Unread> {
+    let [label, behind @ ..] = steps else {
         return Err(flawed(Flaw::Short, u32::MAX));
     };
     if let [field, ..] = behind {
@@ -134,14 +161,29 @@ fn at_label(
     if label.index.is_some() {
         return Err(flawed(Flaw::Index, label.name.line()));
     }
-    match node_of_label(alloc, picture, named.sort, label.name.text())? {
+    Ok(LabelName {
+        text: label.name.text(),
+        line: label.name.line(),
+    })
+}
+
+// That who is named stands at a label.
+fn at_label(
+    alloc: Global,
+    live: &Live<'_, '_>,
+    named: Named,
+    label: LabelName<'_>,
+) -> Result<Base, Unread> {
+    match node_of_label(alloc, live, named.sort, label.text)? {
         Some(node) => Ok(named.at(Spot::Node(node))),
-        None => Err(flawed(Flaw::Label, label.name.line())),
+        None => Err(flawed(Flaw::Label, label.line)),
     }
 }
 
 // The process that is named by its proctype, of this number, and its own.
-fn whose_of(sort: usize, step: &Step<'_>) -> Result<TypedProcess, Unread> {
+fn whose_of(sort: usize, step: &Step<'_>) -> Result<TypedProcess, Unread>
+    ensures { IfOk result (λ whose. whose.sort ≡ sort) }
+{
     match number_in(step) {
         Some(number) => match u8::try_from(number) {
             Ok(process) => Ok(TypedProcess { process, sort }),
@@ -152,7 +194,9 @@ fn whose_of(sort: usize, step: &Step<'_>) -> Result<TypedProcess, Unread> {
 }
 
 // Who is named by a proctype, with or without the number of a process.
-fn named_by(sort: usize, step: &Step<'_>) -> Result<Named, Unread> {
+fn named_by(sort: usize, step: &Step<'_>) -> Result<Named, Unread>
+    ensures { IfOk result (λ named. named.sort ≡ sort) }
+{
     let whose = match &step.index {
         Some(_) => Some(whose_of(sort, step)?),
         None => None,
@@ -160,32 +204,26 @@ fn named_by(sort: usize, step: &Step<'_>) -> Result<Named, Unread> {
     Ok(Named { sort, whose })
 }
 
-// A variable of a process, of the proctype with this number.
-fn variable_of(
-    sort: usize,
-    r: &Reference<'_>,
-    step: &Step<'_>,
-    picture: &Picture<'_, '_, '_>,
-) -> Result<Base, Unread> {
-    let whose = whose_of(sort, &r.first)?;
-    let Some(proctype) = picture.program().proctypes.as_slice().get(sort) else {
-        return Err(flawed(Flaw::Process, r.first.name.line()));
-    };
-    match declared_as(proctype.variables.as_slice(), step.name.text()) {
-        Some(declared) => Ok(Base::Variable(NamedVariable {
+// The variable of a process that has this name, if there is one.
+fn variable_of(live: &Live<'_, '_>, whose: TypedProcess, name: &[u8]) -> Option<NamedVariable>
+    ensures { IfSome result (λ v. v.subject ≡ Local whose v.declared.number) }
+{
+    let proctype = live.program().proctypes.as_slice().get(whose.sort)?;
+    match declared_as(proctype.variables.as_slice(), name) {
+        Some(declared) => Some(NamedVariable {
             subject: StateSubject::Local(whose, declared.number),
             declared,
-        })),
-        None => Err(flawed(Flaw::Name, step.name.line())),
+        }),
+        None => None,
     }
 }
 
 // What a process, of the proctype with this number, has under the name of a field, or where it stands.
-fn of_process(
+fn of_process<'w>(
     alloc: Global,
     sort: usize,
-    r: &Reference<'_>,
-    picture: &Picture<'_, '_, '_>,
+    r: &'w Reference<'_>,
+    live: &'w Live<'_, '_>,
 ) -> Result<Base, Unread> {
     let named = named_by(sort, &r.first)?;
     let [step, rest @ ..] = r.fields.as_slice() else {
@@ -193,16 +231,21 @@ fn of_process(
     };
     let name = step.name.text();
     if name == LINE {
-        at_line(named, step, rest, picture)
-    } else if name == LABEL {
-        at_label(alloc, named, rest, picture)
-    } else {
-        variable_of(sort, r, step, picture)
+        return at_line(live, named, index_in(step), first_line(rest));
+    }
+    if name == LABEL {
+        return at_label(alloc, live, named, label_in(rest)?);
+    }
+    match variable_of(live, whose_of(sort, &r.first)?, name) {
+        Some(variable) => Ok(Base::Variable(variable)),
+        None => Err(flawed(Flaw::Name, step.name.line())),
     }
 }
 
 // A number that a name stands for, which has no index and no field.
-fn plain(base: Base, r: &Reference<'_>) -> Result<Base, Unread> {
+fn plain(base: Base, r: &Reference<'_>) -> Result<Base, Unread>
+    ensures { IfOk result (λ found. found ≡ base) }
+{
     if r.first.index.is_some() || !r.fields.is_empty() {
         return Err(flawed(Flaw::Index, r.first.name.line()));
     }
@@ -214,15 +257,42 @@ fn is_alone(name: &[u8]) -> bool {
     name == b"_pid".as_slice() || name == b"_".as_slice()
 }
 
+// What the first name of a reference is the name of.
+#[derive(Clone, Copy)]
+enum FirstName {
+    Variable(NamedVariable),
+    Number(i32),
+    // a proctype, with its number
+    Sort(usize),
+    Nothing,
+}
+
+fn first_name(live: &Live<'_, '_>, name: &[u8]) -> FirstName {
+    let program = live.program();
+    if let Some(declared) = declared_as(program.globals.as_slice(), name) {
+        return FirstName::Variable(NamedVariable {
+            subject: StateSubject::Global(declared.number),
+            declared,
+        });
+    }
+    if let Some(number) = constant_named(program.constants.as_slice(), name) {
+        return FirstName::Number(number);
+    }
+    match sort_named(program.proctypes.as_slice(), name) {
+        Some(sort) => FirstName::Sort(sort),
+        None => FirstName::Nothing,
+    }
+}
+
 /// What the first names of a reference lead to.
-pub fn base_of(
+pub fn base_of<'w>(
     alloc: Global,
-    r: &Reference<'_>,
-    picture: &Picture<'_, '_, '_>,
+    r: &'w Reference<'_>,
+    live: &'w Live<'_, '_>,
 ) -> Result<Base, Unread> {
     let name = r.first.name.text();
     if name == LINE {
-        return line_fact(&r.first, r.fields.as_slice(), picture);
+        return line_fact(live, index_in(&r.first), first_line(r.fields.as_slice()));
     }
     if is_alone(name) {
         return Err(flawed(Flaw::Alone, r.first.name.line()));
@@ -230,18 +300,10 @@ pub fn base_of(
     if name == b"_nr_pr".as_slice() {
         return plain(Base::ProcessCount, r);
     }
-    let program = picture.program();
-    if let Some(declared) = declared_as(program.globals.as_slice(), name) {
-        return Ok(Base::Variable(NamedVariable {
-            subject: StateSubject::Global(declared.number),
-            declared,
-        }));
-    }
-    if let Some(number) = constant_named(program.constants.as_slice(), name) {
-        return plain(Base::Number(number), r);
-    }
-    match sort_named(program.proctypes.as_slice(), name) {
-        Some(sort) => of_process(alloc, sort, r, picture),
-        None => Err(flawed(Flaw::Name, r.first.name.line())),
+    match first_name(live, name) {
+        FirstName::Variable(variable) => Ok(Base::Variable(variable)),
+        FirstName::Number(number) => plain(Base::Number(number), r),
+        FirstName::Sort(sort) => of_process(alloc, sort, r, live),
+        FirstName::Nothing => Err(flawed(Flaw::Name, r.first.name.line())),
     }
 }

@@ -20,9 +20,9 @@ use pml_program::expr::Expr;
 use pml_program::form::Form;
 use pml_token::token::{Kind, Token};
 use pml_tree::tree::Expr as TreeExpr;
+use run_state::live::Live;
 use sqlite_items::Boxed;
 use std::alloc::Global;
-use view_cells::picture::Picture;
 
 /// A condition has at most so many bytes.
 pub const MOST_BYTES: usize = 1_000;
@@ -98,15 +98,15 @@ fn why_none<'a>(alloc: Global, tokens: &'a [Token<'a>], left: usize) -> Unread {
 }
 
 // The condition that these tokens are, over the states of a model, of which this is one.
-fn condition_of<'a>(
+fn condition_of<'w>(
     alloc: Global,
-    tokens: &'a [Token<'a>],
-    picture: &Picture<'_, '_, '_>,
+    tokens: &'w [Token<'w>],
+    live: &'w Live<'_, '_>,
 ) -> Result<StateCondition, Unread> {
     let mut subjects = Vec::new(alloc);
     match tree_of(alloc, MOST_DEPTH, tokens) {
         Ok(tree) => {
-            let worth = resolved(alloc, tree.get(), picture, &mut subjects)?;
+            let worth = resolved(alloc, tree.get(), live, &mut subjects)?;
             Ok(StateCondition { worth, subjects })
         }
         Err(ReadFault::Memory) => Err(Unread::Memory),
@@ -115,10 +115,10 @@ fn condition_of<'a>(
 }
 
 /// Reads a condition over the states of a model, of which this is one.
-pub fn condition_in(
+pub fn condition_in<'w>(
     alloc: Global,
-    text: &[u8],
-    picture: &Picture<'_, '_, '_>,
+    text: &'w [u8],
+    live: &'w Live<'_, '_>,
 ) -> Result<StateCondition, Unread> {
     if text.len() > MOST_BYTES {
         return Err(flawed(Flaw::Long, u32::MAX));
@@ -128,23 +128,23 @@ pub fn condition_in(
     if let Some(at) = timeout_in(tokens.as_slice()) {
         return Err(flawed(Flaw::Alone, at));
     }
-    condition_of(alloc, &tokens, picture)
+    condition_of(alloc, &tokens, live)
 }
 
 impl StateCondition {
     /// Its worth in a state, or the first fault from the left.
-    pub fn worth(&self, picture: &Picture<'_, '_, '_>) -> Result<i32, Fault>
-        ensures { result ≡ val self.now.worth (all_of picture.now self.now.subjects.items) }
+    pub fn worth<'w>(&'w self, live: &'w Live<'_, '_>) -> Result<i32, Fault>
+        ensures { result ≡ val self.now.worth (all_of live.now.state self.now.subjects.items) }
     {
-        let overview = Overview::new(picture, self.subjects.as_slice());
+        let overview = Overview::new(live, self.subjects.as_slice());
         eval(&self.worth, &overview)
     }
 
     /// A process that it names, and that is not there in a state.
-    pub fn absent(&self, picture: &Picture<'_, '_, '_>) -> Option<TypedProcess> {
+    pub fn absent<'w>(&'w self, live: &'w Live<'_, '_>) -> Option<TypedProcess> {
         for subject in self.subjects.as_slice() {
             if let Some(whose) = subject.whose() {
-                if !is_there(picture, whose) {
+                if !is_there(live, whose) {
                     return Some(whose);
                 }
             }

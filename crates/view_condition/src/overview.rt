@@ -7,35 +7,26 @@ use crate::subject::{StateSubject, number_by, size_by, subject_at};
 use pml_eval::ground::{Filled, Ground};
 use pml_value::view::View;
 use promela_process::place::Place;
-use view_cells::picture::Picture;
+use run_state::live::Live;
 
 /// All of a state, as the variables of a condition show it.
 #[derive(Drop)]
 pub struct Overview<'g, 'w, 'p, 'a> {
-    pub picture: &'g Picture<'w, 'p, 'a>,
+    pub live: &'w Live<'p, 'a>,
     pub subjects: &'g [StateSubject],
     /// What is read of channels, and how many processes live.
-    pub view: View<'g>,
+    pub view: View<'w>,
 }
 
 impl<'g, 'w, 'p, 'a> Overview<'g, 'w, 'p, 'a> {
     /// What a condition reads of a state, whose variables are these.
-    pub fn new(
-        picture: &'g Picture<'w, 'p, 'a>,
-        subjects: &'g [StateSubject],
-    ) -> Overview<'g, 'w, 'p, 'a>
-        ensures { seen result ≡ all_of picture.now subjects.now }
+    pub fn new(live: &'w Live<'p, 'a>, subjects: &'g [StateSubject]) -> Overview<'g, 'w, 'p, 'a>
+        ensures { seen result ≡ all_of live.now.state subjects.now }
     {
-        let count = picture.process_count() as u8;
-        let view = View::new(
-            picture.variables(),
-            picture.live().channels(),
-            0,
-            count,
-            false,
-        );
+        let count = live.process_count() as u8;
+        let view = View::new(live.variables(), live.channels(), 0, count, false);
         Overview {
-            picture,
+            live,
             subjects,
             view,
         }
@@ -52,12 +43,12 @@ impl Ground for Overview<'_, '_, '_, '_> {
     }
 
     fn size(&self, _frame: usize, variable: usize) -> usize {
-        size_by(self.picture, subject_at(self.subjects, variable))
+        size_by(self.live, subject_at(self.subjects, variable))
     }
 
     fn number(&self, place: Place) -> i32 {
         number_by(
-            self.picture,
+            self.live,
             subject_at(self.subjects, place.variable),
             place.cell,
         )

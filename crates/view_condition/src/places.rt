@@ -117,34 +117,43 @@ fn change_at(read: Read<'_, '_>, at: usize) -> Change {
     }
 }
 
+// Adds a token.
+fn put<'t>(token: Token<'t>, list: &mut Vec<Token<'t>>) -> Result<(), AllocError> {
+    list.push(token)?;
+    Ok(())
+}
+
 // Adds a number as an index.
 fn add_index<'t>(token: &Token<'t>, list: &mut Vec<Token<'t>>) -> Result<(), AllocError> {
-    list.push(Token::new(Kind::OpenBracket, token.text(), token.line()))?;
-    list.push(token.copied())?;
-    list.push(Token::new(Kind::CloseBracket, token.text(), token.line()))?;
-    Ok(())
+    put(
+        Token::new(Kind::OpenBracket, token.text(), token.line()),
+        list,
+    )?;
+    put(token.copied(), list)?;
+    put(
+        Token::new(Kind::CloseBracket, token.text(), token.line()),
+        list,
+    )
 }
 
 // Adds a field, whose field stands behind it.
 fn add_label<'t>(token: &Token<'t>, list: &mut Vec<Token<'t>>) -> Result<(), AllocError> {
-    list.push(Token::new(Kind::Dot, token.text(), token.line()))?;
-    list.push(Token::new(Kind::Name, LABEL, token.line()))?;
-    list.push(Token::new(Kind::Dot, token.text(), token.line()))?;
-    Ok(())
+    put(Token::new(Kind::Dot, token.text(), token.line()), list)?;
+    put(Token::new(Kind::Name, LABEL, token.line()), list)?;
+    put(Token::new(Kind::Dot, token.text(), token.line()), list)
 }
 
 // Adds what becomes of a token.
 fn add<'t>(token: &Token<'t>, change: Change, list: &mut Vec<Token<'t>>) -> Result<(), AllocError> {
     match change {
-        Change::Dot => list.push(Token::new(Kind::Dot, token.text(), token.line()))?,
-        Change::Label => add_label(token, list)?,
-        Change::Line => list.push(Token::new(Kind::Name, LINE, token.line()))?,
-        Change::Index => add_index(token, list)?,
-        Change::Name => list.push(Token::new(Kind::Name, token.text(), token.line()))?,
-        Change::Nothing => {}
-        Change::Same => list.push(token.copied())?,
+        Change::Dot => put(Token::new(Kind::Dot, token.text(), token.line()), list),
+        Change::Label => add_label(token, list),
+        Change::Line => put(Token::new(Kind::Name, LINE, token.line()), list),
+        Change::Index => add_index(token, list),
+        Change::Name => put(Token::new(Kind::Name, token.text(), token.line()), list),
+        Change::Nothing => Ok(()),
+        Change::Same => put(token.copied(), list),
     }
-    Ok(())
 }
 
 /// The tokens of a condition with this text, in which `at line 12` stands as the element 12 of a field, `line 12` as that of a variable,

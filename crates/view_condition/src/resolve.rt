@@ -13,10 +13,10 @@ use pml_program::form::Form;
 use pml_token::token::Token;
 use pml_tree::tree::{Argument, Expr as TreeExpr, Reference, Scalar, Sign, Step};
 use promela_model::mark::Constant;
+use run_state::live::Live;
 use sqlite_items::{Boxed, Items};
 use std::alloc::{AllocError, Global};
 use view_cells::cells::is_chan;
-use view_cells::picture::Picture;
 
 // The number that a token is, behind a sign.
 fn literal(token: &Token<'_>, sign: Sign) -> Result<i32, Unread> {
@@ -64,11 +64,11 @@ fn fact_read(
 
 /// The index of a variable or a field, which an array has and nothing else.
 #[cycle(resolve)]
-fn index(
+fn index<'w>(
     alloc: Global,
     is_array: bool,
-    step: &Step<'_>,
-    picture: &Picture<'_, '_, '_>,
+    step: &'w Step<'_>,
+    live: &'w Live<'_, '_>,
     subjects: &mut Vec<StateSubject>,
 ) -> Result<Option<Boxed<Expr>>, Unread> {
     match &step.index {
@@ -82,21 +82,21 @@ fn index(
             if !is_array {
                 return Err(flawed(Flaw::Index, step.name.line()));
             }
-            Ok(Some(boxed(alloc, e.get(), picture, subjects)?))
+            Ok(Some(boxed(alloc, e.get(), live, subjects)?))
         }
     }
 }
 
 /// The turn of a variable, from its first cell on, or of a field.
 #[cycle(resolve)]
-fn turn(
+fn turn<'w>(
     alloc: Global,
     declared: DeclaredVariable,
-    step: &Step<'_>,
-    picture: &Picture<'_, '_, '_>,
+    step: &'w Step<'_>,
+    live: &'w Live<'_, '_>,
     subjects: &mut Vec<StateSubject>,
 ) -> Result<Turn, Unread> {
-    let index = index(alloc, declared.array, step, picture, subjects)?;
+    let index = index(alloc, declared.array, step, live, subjects)?;
     Ok(Turn {
         offset: declared.offset,
         length: declared.length,
@@ -122,15 +122,15 @@ fn no_field(name: &[u8]) -> Flaw {
 }
 
 // What a name behind what is reached is declared as.
-fn declared_by(
+fn declared_by<'w>(
     reached: Reached,
-    name: &Token<'_>,
-    picture: &Picture<'_, '_, '_>,
+    name: &'w Token<'_>,
+    live: &'w Live<'_, '_>,
 ) -> Result<DeclaredVariable, Unread> {
     if let Some(declared) = reached.next {
         return Ok(declared);
     }
-    let typedefs = picture.program().typedefs.as_slice();
+    let typedefs = live.program().typedefs.as_slice();
     match field_named(typedefs, reached.form, name.text()) {
         Some(declared) => Ok(declared),
         None => Err(flawed(no_field(name.text()), name.line())),
@@ -139,18 +139,18 @@ fn declared_by(
 
 /// Adds the turns of names that stand behind what is reached. The type that they lead to.
 #[cycle(resolve)]
-fn through(
+fn through<'w>(
     alloc: Global,
     reached: Reached,
-    steps: &[Step<'_>],
-    picture: &Picture<'_, '_, '_>,
+    steps: &'w [Step<'_>],
+    live: &'w Live<'_, '_>,
     subjects: &mut Vec<StateSubject>,
     turns: &mut Items<Turn>,
 ) -> Result<Form, Unread> {
     let mut here = reached;
     for step in steps {
-        let declared = declared_by(here, &step.name, picture)?;
-        turns.push(turn(alloc, declared, step, picture, subjects)?)?;
+        let declared = declared_by(here, &step.name, live)?;
+        turns.push(turn(alloc, declared, step, live, subjects)?)?;
         here = Reached {
             form: declared.form,
             next: None,
@@ -161,30 +161,30 @@ fn through(
 
 /// Adds the turns of a variable of the globals, which the first name of a reference names. The type that they lead to.
 #[cycle(resolve)]
-fn global_turns(
+fn global_turns<'w>(
     alloc: Global,
     declared: DeclaredVariable,
-    r: &Reference<'_>,
-    picture: &Picture<'_, '_, '_>,
+    r: &'w Reference<'_>,
+    live: &'w Live<'_, '_>,
     subjects: &mut Vec<StateSubject>,
     turns: &mut Items<Turn>,
 ) -> Result<Form, Unread> {
-    turns.push(turn(alloc, declared, &r.first, picture, subjects)?)?;
+    turns.push(turn(alloc, declared, &r.first, live, subjects)?)?;
     let reached = Reached {
         form: declared.form,
         next: None,
     };
     let steps = r.fields.as_slice();
-    through(alloc, reached, steps, picture, subjects, turns)
+    through(alloc, reached, steps, live, subjects, turns)
 }
 
 /// The place that a reference leads to, whose first names are found.
 #[cycle(resolve)]
-fn target(
+fn target<'w>(
     alloc: Global,
     found: NamedVariable,
-    r: &Reference<'_>,
-    picture: &Picture<'_, '_, '_>,
+    r: &'w Reference<'_>,
+    live: &'w Live<'_, '_>,
     subjects: &mut Vec<StateSubject>,
 ) -> Result<Target, Unread> {
     let declared = found.whole();
@@ -195,9 +195,9 @@ fn target(
             next: Some(declared),
         };
         let steps = r.fields.as_slice();
-        through(alloc, reached, steps, picture, subjects, &mut turns)?
+        through(alloc, reached, steps, live, subjects, &mut turns)?
     } else {
-        global_turns(alloc, declared, r, picture, subjects, &mut turns)?
+        global_turns(alloc, declared, r, live, subjects, &mut turns)?
     };
     if let Form::Struct(_) = form {
         return Err(flawed(Flaw::Structure, r.first.name.line()));
@@ -213,43 +213,43 @@ fn target(
 
 /// What a reference is worth.
 #[cycle(resolve)]
-fn read(
+fn read<'w>(
     alloc: Global,
-    r: &Reference<'_>,
-    picture: &Picture<'_, '_, '_>,
+    r: &'w Reference<'_>,
+    live: &'w Live<'_, '_>,
     subjects: &mut Vec<StateSubject>,
 ) -> Result<Expr, Unread> {
-    match base_of(alloc, r, picture)? {
+    match base_of(alloc, r, live)? {
         Base::Number(number) => Ok(Expr::Number(number)),
         Base::ProcessCount => Ok(Expr::ProcessCount),
         Base::Fact(subject) => Ok(fact_read(alloc, subject, subjects)?),
-        Base::Variable(found) => Ok(Expr::Read(target(alloc, found, r, picture, subjects)?)),
+        Base::Variable(found) => Ok(Expr::Read(target(alloc, found, r, live, subjects)?)),
     }
 }
 
 /// The place that a reference leads to.
 #[cycle(resolve)]
-fn placed(
+fn placed<'w>(
     alloc: Global,
-    r: &Reference<'_>,
-    picture: &Picture<'_, '_, '_>,
+    r: &'w Reference<'_>,
+    live: &'w Live<'_, '_>,
     subjects: &mut Vec<StateSubject>,
 ) -> Result<Target, Unread> {
-    match base_of(alloc, r, picture)? {
-        Base::Variable(found) => target(alloc, found, r, picture, subjects),
+    match base_of(alloc, r, live)? {
+        Base::Variable(found) => target(alloc, found, r, live, subjects),
         _ => Err(flawed(Flaw::Channel, r.first.name.line())),
     }
 }
 
 /// A channel that is asked.
 #[cycle(resolve)]
-fn channel(
+fn channel<'w>(
     alloc: Global,
-    r: &Reference<'_>,
-    picture: &Picture<'_, '_, '_>,
+    r: &'w Reference<'_>,
+    live: &'w Live<'_, '_>,
     subjects: &mut Vec<StateSubject>,
 ) -> Result<Boxed<Target>, Unread> {
-    let place = placed(alloc, r, picture, subjects)?;
+    let place = placed(alloc, r, live, subjects)?;
     if !is_chan(place.form) {
         return Err(flawed(Flaw::Channel, r.first.name.line()));
     }
@@ -258,91 +258,91 @@ fn channel(
 
 /// What a name asks of a field of a message.
 #[cycle(resolve)]
-fn into(
+fn into<'w>(
     alloc: Global,
-    r: &Reference<'_>,
-    picture: &Picture<'_, '_, '_>,
+    r: &'w Reference<'_>,
+    live: &'w Live<'_, '_>,
     subjects: &mut Vec<StateSubject>,
 ) -> Result<Want, Unread> {
     if r.first.name.text() == b"_".as_slice() {
         return Ok(Want::Anything);
     }
-    if let Base::Number(number) = base_of(alloc, r, picture)? {
+    if let Base::Number(number) = base_of(alloc, r, live)? {
         return Ok(Want::Exactly(number));
     }
-    Ok(Want::Into(placed(alloc, r, picture, subjects)?))
+    Ok(Want::Into(placed(alloc, r, live, subjects)?))
 }
 
 #[cycle(resolve)]
-fn want(
+fn want<'w>(
     alloc: Global,
-    argument: &Argument<'_>,
-    picture: &Picture<'_, '_, '_>,
+    argument: &'w Argument<'_>,
+    live: &'w Live<'_, '_>,
     subjects: &mut Vec<StateSubject>,
 ) -> Result<Want, Unread> {
     match argument {
         Argument::Exactly(sign, token) => Ok(Want::Exactly(literal(token, *sign)?)),
         Argument::Fixed(truth) => Ok(Want::Exactly(if *truth { 1 } else { 0 })),
-        Argument::Eval(e) => Ok(Want::Equal(boxed(alloc, e.get(), picture, subjects)?)),
-        Argument::Into(r) => into(alloc, r, picture, subjects),
+        Argument::Eval(e) => Ok(Want::Equal(boxed(alloc, e.get(), live, subjects)?)),
+        Argument::Into(r) => into(alloc, r, live, subjects),
     }
 }
 
 #[cycle(resolve)]
-fn wants(
+fn wants<'w>(
     alloc: Global,
-    arguments: &[Argument<'_>],
-    picture: &Picture<'_, '_, '_>,
+    arguments: &'w [Argument<'_>],
+    live: &'w Live<'_, '_>,
     subjects: &mut Vec<StateSubject>,
 ) -> Result<Items<Want>, Unread> {
     let mut found = Items::new(alloc);
     for argument in arguments {
-        found.push(want(alloc, argument, picture, subjects)?)?;
+        found.push(want(alloc, argument, live, subjects)?)?;
     }
     Ok(found)
 }
 
 /// An expression, in a box.
 #[cycle(resolve)]
-fn boxed(
+fn boxed<'w>(
     alloc: Global,
-    e: &TreeExpr<'_>,
-    picture: &Picture<'_, '_, '_>,
+    e: &'w TreeExpr<'_>,
+    live: &'w Live<'_, '_>,
     subjects: &mut Vec<StateSubject>,
 ) -> Result<Boxed<Expr>, Unread> {
-    let worth = resolved(alloc, e, picture, subjects)?;
+    let worth = resolved(alloc, e, live, subjects)?;
     Ok(Boxed::new(alloc, worth)?)
 }
 
 /// An expression with its names replaced; what its variables are is added.
 #[cycle(resolve)]
-pub fn resolved(
+pub fn resolved<'w>(
     alloc: Global,
-    e: &TreeExpr<'_>,
-    picture: &Picture<'_, '_, '_>,
+    e: &'w TreeExpr<'_>,
+    live: &'w Live<'_, '_>,
     subjects: &mut Vec<StateSubject>,
 ) -> Result<Expr, Unread> {
     match e {
         TreeExpr::Number(token) => Ok(Expr::Number(literal(token, Sign::Plus)?)),
         TreeExpr::Truth(truth) => Ok(Expr::Number(if *truth { 1 } else { 0 })),
         TreeExpr::Timeout => Ok(Expr::Timeout),
-        TreeExpr::Read(r) => read(alloc, r, picture, subjects),
-        TreeExpr::Ask(fill, r) => Ok(Expr::Ask(*fill, channel(alloc, r, picture, subjects)?)),
+        TreeExpr::Read(r) => read(alloc, r, live, subjects),
+        TreeExpr::Ask(fill, r) => Ok(Expr::Ask(*fill, channel(alloc, r, live, subjects)?)),
         TreeExpr::Poll(r, search, arguments) => {
-            let at = channel(alloc, r, picture, subjects)?;
-            let asked = wants(alloc, arguments.as_slice(), picture, subjects)?;
+            let at = channel(alloc, r, live, subjects)?;
+            let asked = wants(alloc, arguments.as_slice(), live, subjects)?;
             Ok(Expr::Poll(at, *search, asked))
         }
-        TreeExpr::Unary(op, a) => Ok(Expr::Unary(*op, boxed(alloc, a.get(), picture, subjects)?)),
+        TreeExpr::Unary(op, a) => Ok(Expr::Unary(*op, boxed(alloc, a.get(), live, subjects)?)),
         TreeExpr::Binary(op, a, b) => {
-            let left = boxed(alloc, a.get(), picture, subjects)?;
-            let right = boxed(alloc, b.get(), picture, subjects)?;
+            let left = boxed(alloc, a.get(), live, subjects)?;
+            let right = boxed(alloc, b.get(), live, subjects)?;
             Ok(Expr::Binary(*op, left, right))
         }
         TreeExpr::Choice(a, b, c) => {
-            let condition = boxed(alloc, a.get(), picture, subjects)?;
-            let one = boxed(alloc, b.get(), picture, subjects)?;
-            let other = boxed(alloc, c.get(), picture, subjects)?;
+            let condition = boxed(alloc, a.get(), live, subjects)?;
+            let one = boxed(alloc, b.get(), live, subjects)?;
+            let other = boxed(alloc, c.get(), live, subjects)?;
             Ok(Expr::Choice(condition, one, other))
         }
     }

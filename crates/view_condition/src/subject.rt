@@ -10,7 +10,6 @@ use promela_process::place::Place;
 use run_state::live::Live;
 use run_state::seat::{Seat, seat_at};
 use view_cells::cells::{cell_count, number_at};
-use view_cells::picture::Picture;
 use view_cells::processes::line_of;
 
 /// A process, and which proctype it is to be of.
@@ -65,20 +64,20 @@ pub fn subject_at(subjects: &[StateSubject], variable: usize) -> Option<StateSub
 }
 
 // Whether the process with this number is of a proctype.
-fn is_of(picture: &Picture<'_, '_, '_>, sort: usize, process: usize) -> bool
-    ensures { result ≡ is_of picture.now sort process }
+fn is_of(live: &Live<'_, '_>, sort: usize, process: usize) -> bool
+    ensures { result ≡ is_of live.now.state sort process }
 {
-    match picture.live().sorts().get(process) {
+    match live.sorts().get(process) {
         Some(other) => *other == sort,
         None => false,
     }
 }
 
 /// Whether a process lives, and is of this proctype.
-pub fn is_there(picture: &Picture<'_, '_, '_>, whose: TypedProcess) -> bool
-    ensures { result ≡ is_there picture.now whose }
+pub fn is_there(live: &Live<'_, '_>, whose: TypedProcess) -> bool
+    ensures { result ≡ is_there live.now.state whose }
 {
-    is_of(picture, whose.sort, usize::from(whose.process))
+    is_of(live, whose.sort, usize::from(whose.process))
 }
 
 // Whether a process stands at the node of another seat of its proctype.
@@ -94,10 +93,9 @@ fn is_same_seat(live: &Live<'_, '_>, seat: Seat, other: Seat) -> bool
 }
 
 // Whether a process stands at a node of its graph.
-fn is_on(picture: &Picture<'_, '_, '_>, process: usize, node: usize) -> bool
-    ensures { result ≡ is_on picture.now process node }
+fn is_on(live: &Live<'_, '_>, process: usize, node: usize) -> bool
+    ensures { result ≡ is_on live.now.state process node }
 {
-    let live = picture.live();
     match seat_at(live.seats(), process) {
         Some(seat) => {
             let other = Seat {
@@ -111,62 +109,62 @@ fn is_on(picture: &Picture<'_, '_, '_>, process: usize, node: usize) -> bool
 }
 
 // Whether a process stands there.
-fn at_spot(picture: &Picture<'_, '_, '_>, process: usize, spot: Spot) -> bool
-    ensures { result ≡ at_spot picture.now process spot }
+fn at_spot(live: &Live<'_, '_>, process: usize, spot: Spot) -> bool
+    ensures { result ≡ at_spot live.now.state process spot }
 {
     match spot {
-        Spot::Line(line) => line_of(picture, process) == line,
-        Spot::Node(node) => is_on(picture, process, node),
+        Spot::Line(line) => line_of(live, process) == line,
+        Spot::Node(node) => is_on(live, process, node),
     }
 }
 
 // Whether a process is there, and stands at this spot.
-fn stands_at(picture: &Picture<'_, '_, '_>, whose: TypedProcess, spot: Spot) -> bool
-    ensures { result ≡ stands_at picture.now whose spot }
+fn stands_at(live: &Live<'_, '_>, whose: TypedProcess, spot: Spot) -> bool
+    ensures { result ≡ stands_at live.now.state whose spot }
 {
-    is_there(picture, whose) && at_spot(picture, usize::from(whose.process), spot)
+    is_there(live, whose) && at_spot(live, usize::from(whose.process), spot)
 }
 
 // Whether one of so many processes is of a proctype, and stands at this spot.
-fn any_of(picture: &Picture<'_, '_, '_>, sort: usize, spot: Spot, count: usize) -> bool
-    ensures { result ≡ any_of picture.now sort spot count }
+fn any_of(live: &Live<'_, '_>, sort: usize, spot: Spot, count: usize) -> bool
+    ensures { result ≡ any_of live.now.state sort spot count }
 {
     let mut found = false;
     for process in 0..count {
-        found = found || (is_of(picture, sort, process) && at_spot(picture, process, spot));
+        found = found || (is_of(live, sort, process) && at_spot(live, process, spot));
     }
     found
 }
 
 /// Whether one of so many processes stands at this line.
-pub fn any_at(picture: &Picture<'_, '_, '_>, line: u32, count: usize) -> bool
-    ensures { result ≡ any_at picture.now line count }
+pub fn any_at(live: &Live<'_, '_>, line: u32, count: usize) -> bool
+    ensures { result ≡ any_at live.now.state line count }
 {
     let mut found = false;
     for process in 0..count {
-        found = found || line_of(picture, process) == line;
+        found = found || line_of(live, process) == line;
     }
     found
 }
 
 // How many cells a variable of a process has, while it is there.
-fn local_size(picture: &Picture<'_, '_, '_>, whose: TypedProcess, variable: usize) -> usize
-    ensures { result ≡ size_by picture.now (Some (StateSubject.Local whose variable)) }
+fn local_size(live: &Live<'_, '_>, whose: TypedProcess, variable: usize) -> usize
+    ensures { result ≡ size_by live.now.state (Some (StateSubject.Local whose variable)) }
 {
-    if is_there(picture, whose) {
-        cell_count(picture, usize::from(whose.process) + 1, variable)
+    if is_there(live, whose) {
+        cell_count(live, usize::from(whose.process) + 1, variable)
     } else {
         0
     }
 }
 
 /// How many cells a variable has.
-pub fn size_by(picture: &Picture<'_, '_, '_>, subject: Option<StateSubject>) -> usize
-    ensures { result ≡ size_by picture.now subject }
+pub fn size_by(live: &Live<'_, '_>, subject: Option<StateSubject>) -> usize
+    ensures { result ≡ size_by live.now.state subject }
 {
     match subject {
-        Some(StateSubject::Global(variable)) => cell_count(picture, 0, variable),
-        Some(StateSubject::Local(whose, variable)) => local_size(picture, whose, variable),
+        Some(StateSubject::Global(variable)) => cell_count(live, 0, variable),
+        Some(StateSubject::Local(whose, variable)) => local_size(live, whose, variable),
         Some(StateSubject::At(_, _))
         | Some(StateSubject::Any(_, _))
         | Some(StateSubject::Line(_)) => 1,
@@ -175,31 +173,31 @@ pub fn size_by(picture: &Picture<'_, '_, '_>, subject: Option<StateSubject>) -> 
 }
 
 // The number of a cell of a frame.
-fn number_in(picture: &Picture<'_, '_, '_>, frame: usize, variable: usize, cell: usize) -> i32
-    ensures { result ≡ number_by_frame picture.now frame variable cell }
+fn number_in(live: &Live<'_, '_>, frame: usize, variable: usize, cell: usize) -> i32
+    ensures { result ≡ number_by_frame live.now.state frame variable cell }
 {
     let place = Place {
         frame,
         variable,
         cell,
     };
-    number_at(picture, place)
+    number_at(live, place)
 }
 
 /// The number of a cell of a variable.
-pub fn number_by(picture: &Picture<'_, '_, '_>, subject: Option<StateSubject>, cell: usize) -> i32
-    ensures { result ≡ number_by picture.now subject cell }
+pub fn number_by(live: &Live<'_, '_>, subject: Option<StateSubject>, cell: usize) -> i32
+    ensures { result ≡ number_by live.now.state subject cell }
 {
     match subject {
-        Some(StateSubject::Global(variable)) => number_in(picture, 0, variable, cell),
+        Some(StateSubject::Global(variable)) => number_in(live, 0, variable, cell),
         Some(StateSubject::Local(whose, variable)) => {
-            number_in(picture, usize::from(whose.process) + 1, variable, cell)
+            number_in(live, usize::from(whose.process) + 1, variable, cell)
         }
-        Some(StateSubject::At(whose, spot)) => number_of(stands_at(picture, whose, spot)),
+        Some(StateSubject::At(whose, spot)) => number_of(stands_at(live, whose, spot)),
         Some(StateSubject::Any(sort, spot)) => {
-            number_of(any_of(picture, sort, spot, picture.process_count()))
+            number_of(any_of(live, sort, spot, live.process_count()))
         }
-        Some(StateSubject::Line(line)) => number_of(any_at(picture, line, picture.process_count())),
+        Some(StateSubject::Line(line)) => number_of(any_at(live, line, live.process_count())),
         None => 0,
     }
 }

@@ -15,7 +15,6 @@ use run_search::picked::picked as offer_of;
 use run_state::body::Body;
 use run_state::live::Live;
 use run_state::seat::{Seat, seat_at};
-use view_cells::picture::Picture;
 use view_tokens::tokens::Json;
 
 // The line of what stands first at a node of a body, or of its closing brace.
@@ -55,7 +54,7 @@ fn next_from(live: &Live<'_, '_>, seat: Seat, pick: Pick) -> u32
 }
 
 // The line at which the process of a pick stands behind it.
-fn next_in_live(live: &Live<'_, '_>, pick: Pick) -> u32
+fn next_of(live: &Live<'_, '_>, pick: Pick) -> u32
     ensures { result ≡ next_line live.now.state pick }
 {
     match seat_at(live.seats(), pick.process) {
@@ -64,16 +63,10 @@ fn next_in_live(live: &Live<'_, '_>, pick: Pick) -> u32
     }
 }
 
-fn next_of(picture: &Picture<'_, '_, '_>, pick: Pick) -> u32
-    ensures { result ≡ next_line picture.now pick }
-{
-    next_in_live(picture.live(), pick)
-}
-
 /// Writes a process, its offer, and where it stands behind it.
-pub(crate) fn actor(picture: &Picture<'_, '_, '_>, json: &mut Json, pick: Pick)
-    ensures { Writes json.old json.new (actor picture.now pick) }
+pub(crate) fn actor(live: &Live<'_, '_>, json: &mut Json, pick: Pick)
+    ensures { Writes json.old json.new (actor live.now.state pick) }
 {
-    picked(picture, json, pick);
-    number(json, "next", next_of(picture, pick) as usize);
+    picked(live, json, pick);
+    number(json, "next", next_of(live, pick) as usize);
 }

@@ -19,10 +19,10 @@ use crate::list::Listing;
 use crate::objects::{all_cells, cell};
 use crate::process::standing;
 use promela_run::moves::Move;
+use run_state::live::Live;
 use run_values::changed::Change;
 use std::alloc::{AllocError, Global};
 use std::marker::Model;
-use view_cells::picture::Picture;
 use view_text::writer::Writer;
 use view_tokens::tokens::Json;
 
@@ -48,60 +48,51 @@ pub fn has_changes(frame: usize, changes: &[Change]) -> bool
 }
 
 // Writes a variable that a step changed, if it is of this frame.
-fn changed_cell(picture: &Picture<'_, '_, '_>, json: &mut Json, frame: usize, change: Change)
-    ensures { Writes json.old json.new (changed_cell picture.now frame change) }
+fn changed_cell(live: &Live<'_, '_>, json: &mut Json, frame: usize, change: Change)
+    ensures { Writes json.old json.new (changed_cell live.now.state frame change) }
 {
     if change.place.frame == frame {
-        cell(picture, json, change.place);
+        cell(live, json, change.place);
     }
 }
 
-fn each_changed(picture: &Picture<'_, '_, '_>, json: &mut Json, frame: usize, changes: &[Change])
-    ensures { Writes json.old json.new (flat_map (changed_cell picture.now frame) changes.now) }
+fn each_changed(live: &Live<'_, '_>, json: &mut Json, frame: usize, changes: &[Change])
+    ensures { Writes json.old json.new (flat_map (changed_cell live.now.state frame) changes.now) }
 {
     for change in changes {
-        changed_cell(picture, json, frame, *change);
+        changed_cell(live, json, frame, *change);
     }
 }
 
 /// Writes the variables of a frame that a step changed, as an object.
-pub fn changed_cells(
-    picture: &Picture<'_, '_, '_>,
-    json: &mut Json,
-    frame: usize,
-    changes: &[Change],
-)
-    ensures { Writes json.old json.new (changed_cells picture.now frame changes.now) }
+pub fn changed_cells(live: &Live<'_, '_>, json: &mut Json, frame: usize, changes: &[Change])
+    ensures { Writes json.old json.new (changed_cells live.now.state frame changes.now) }
 {
     json.begin_object();
-    each_changed(picture, json, frame, changes);
+    each_changed(live, json, frame, changes);
     json.end_object();
 }
 
-fn channel_bytes(
-    picture: &Picture<'_, '_, '_>,
-    alloc: Global,
-    n: usize,
-) -> Result<Vec<u8>, AllocError>
-    ensures { IfOk result (λ v. PrintsChannel picture.now n v.items) }
+fn channel_bytes(live: &Live<'_, '_>, alloc: Global, n: usize) -> Result<Vec<u8>, AllocError>
+    ensures { IfOk result (λ v. PrintsChannel live.now.state n v.items) }
 {
     let mut json = Json::new(alloc);
-    channel(picture, &mut json, n);
+    channel(live, &mut json, n);
     let mut text = Writer::new(alloc);
     json.finish(&mut text);
     text.finish()
 }
 
 fn process_bytes(
-    picture: &Picture<'_, '_, '_>,
+    live: &Live<'_, '_>,
     alloc: Global,
     moves: &Counted<'_>,
     process: usize,
 ) -> Result<Vec<u8>, AllocError>
-    ensures { IfOk result (λ v. PrintsProcess picture.now moves.now process v.items) }
+    ensures { IfOk result (λ v. PrintsProcess live.now.state moves.now process v.items) }
 {
     let mut json = Json::new(alloc);
-    standing(picture, &mut json, moves, process);
+    standing(live, &mut json, moves, process);
     let mut text = Writer::new(alloc);
     json.finish(&mut text);
     text.finish()
@@ -116,31 +107,31 @@ pub struct Behind<'s> {
 }
 
 // Writes the variables that are to be shown of a process.
-fn add_locals(picture: &Picture<'_, '_, '_>, json: &mut Json, process: usize, behind: Behind<'_>)
+fn add_locals(live: &Live<'_, '_>, json: &mut Json, process: usize, behind: Behind<'_>)
     requires { process < MOST_PROCESSES }
-    ensures { Writes json.old json.new (told_variables picture.now behind.entry process) }
+    ensures { Writes json.old json.new (told_variables live.now.state behind.entry process) }
 {
     if process < behind.older {
-        changed_cells(picture, json, process + 1, behind.changes);
+        changed_cells(live, json, process + 1, behind.changes);
     } else {
-        all_cells(picture, json, process + 1);
+        all_cells(live, json, process + 1);
     }
 }
 
 // Writes the object of a process, with these variables.
 fn add_process(
-    picture: &Picture<'_, '_, '_>,
+    live: &Live<'_, '_>,
     process: usize,
     object: &[u8],
     behind: Behind<'_>,
     out: &mut Writer,
 )
     requires { process < MOST_PROCESSES }
-    ensures written { AddsProcess picture.now behind.entry process object.now out.old out.new }
-    ensures printable { PrintsLocals picture.now behind.entry process out.new }
+    ensures written { AddsProcess live.now.state behind.entry process object.now out.old out.new }
+    ensures printable { PrintsLocals live.now.state behind.entry process out.new }
 {
     let mut json = Json::new(out.allocator());
-    add_locals(picture, &mut json, process, behind);
+    add_locals(live, &mut json, process, behind);
     out.add(object);
     out.add(b",\"locals\":");
     json.finish(out);
@@ -149,7 +140,7 @@ fn add_process(
 
 // Lists the object of a process, with its variables, if it is not the same as before.
 fn list_process(
-    picture: &Picture<'_, '_, '_>,
+    live: &Live<'_, '_>,
     process: usize,
     object: &[u8],
     is_same: bool,
@@ -157,13 +148,13 @@ fn list_process(
     list: &mut Listing,
 )
     requires { process < MOST_PROCESSES }
-    ensures { ListsObject (told_unless is_same picture.now behind.entry process) object.now list.old list.new }
+    ensures { ListsObject (told_unless is_same live.now.state behind.entry process) object.now list.old list.new }
 {
     if is_same {
         return;
     }
     list.next();
-    add_process(picture, process, object, behind, &mut list.text);
+    add_process(live, process, object, behind, &mut list.text);
 }
 
 /// What was shown last: the objects of the processes, without their variables, and of the channels.
@@ -200,49 +191,17 @@ impl Shown {
         is_at(self.channels.as_slice(), at, object)
     }
 
-    // The object of the channel with this number, which is listed if it was not shown at this place.
-    fn channel(
-        &self,
-        picture: &Picture<'_, '_, '_>,
-        at: usize,
-        n: usize,
-        list: &mut Listing,
-    ) -> Result<Vec<u8>, AllocError>
-        ensures { IfOk result (λ v. ListsChannel self.now.channels picture.now at n v.items list.old list.new) }
-    {
-        let object = channel_bytes(picture, *self.channels.allocator(), n)?;
-        let is_same = self.is_shown(at, object.as_slice());
-        list.add_unless(is_same, object.as_slice());
-        Ok(object)
-    }
-
-    // The objects of the channels; those that were not shown are listed.
-    fn all_channels(
-        &self,
-        picture: &Picture<'_, '_, '_>,
-        list: &mut Listing,
-    ) -> Result<Vec<Vec<u8>>, AllocError>
-        ensures { IfOk result (λ v. ListsChannels self.now.channels picture.now (map (λ x. x.items) v.items) list.old list.new) }
-    {
-        let mut objects = Vec::new(*self.channels.allocator());
-        for at in 0..picture.channel_count() {
-            let object = self.channel(picture, at, at + 1, list)?;
-            objects.push(object)?;
-        }
-        Ok(objects)
-    }
-
     /// Writes the channels that were not shown so.
     pub fn add_channels(
         &mut self,
-        picture: &Picture<'_, '_, '_>,
+        live: &Live<'_, '_>,
         is_always: bool,
         out: &mut Writer,
     ) -> Result<(), AllocError>
-        ensures { OnOk result (AddsChannels is_always picture.now (telling out.old self.old) (telling out.new self.new)) }
+        ensures { OnOk result (AddsChannels is_always live.now.state (telling out.old self.old) (telling out.new self.new)) }
     {
         let mut list = Listing::new(out.allocator());
-        self.channels = self.all_channels(picture, &mut list)?;
+        self.channels = all_channels(live, self, &mut list)?;
         list.put(b",\"channels\":[", is_always, out);
         Ok(())
     }
@@ -257,59 +216,91 @@ impl Shown {
             && is_at(self.processes.as_slice(), process, object)
     }
 
-    // The object of a process, which is listed if it is not as it was shown.
-    fn process(
-        &self,
-        picture: &Picture<'_, '_, '_>,
-        process: usize,
-        moves: &Counted<'_>,
-        behind: Behind<'_>,
-        list: &mut Listing,
-    ) -> Result<Vec<u8>, AllocError>
-        requires { process < MOST_PROCESSES }
-        ensures { moves.now ≡ behind.entry.moves.now →
-            IfOk result (λ v. ListsProcess self.now.processes picture.now behind.entry process v.items list.old list.new) }
-    {
-        let alloc = *self.processes.allocator();
-        let object = process_bytes(picture, alloc, moves, process)?;
-        let is_same = self.is_as_shown(process, behind, object.as_slice());
-        list_process(picture, process, object.as_slice(), is_same, behind, list);
-        Ok(object)
-    }
-
-    // The objects of the processes; those that are not as they were shown are listed.
-    fn all_processes(
-        &self,
-        picture: &Picture<'_, '_, '_>,
-        behind: Behind<'_>,
-        list: &mut Listing,
-    ) -> Result<Vec<Vec<u8>>, AllocError>
-        ensures { let before = self.now.processes in
-            IfOk result (λ v. ListsBehind before picture.now behind.entry (map (λ x. x.items) v.items) list.old list.new) }
-    {
-        let alloc = *self.processes.allocator();
-        let moves = Counted::new(alloc, picture.process_count(), behind.moves)?;
-        let mut objects = Vec::new(alloc);
-        for process in 0..picture.process_count() {
-            let object = self.process(picture, process, &moves, behind, list)?;
-            objects.push(object)?;
-        }
-        Ok(objects)
-    }
-
     /// Writes the processes that are not as they were shown.
     pub fn add_processes(
         &mut self,
-        picture: &Picture<'_, '_, '_>,
+        live: &Live<'_, '_>,
         behind: Behind<'_>,
         is_always: bool,
         out: &mut Writer,
     ) -> Result<(), AllocError>
-        ensures { OnOk result (AddsProcesses is_always picture.now behind.entry (telling out.old self.old) (telling out.new self.new)) }
+        ensures { OnOk result (AddsProcesses is_always live.now.state behind.entry (telling out.old self.old) (telling out.new self.new)) }
     {
         let mut list = Listing::new(out.allocator());
-        self.processes = self.all_processes(picture, behind, &mut list)?;
+        self.processes = all_processes(live, self, behind, &mut list)?;
         list.put(b",\"processes\":[", is_always, out);
         Ok(())
     }
+}
+
+// The object of the channel with this number, which is listed if it was not shown at this place.
+fn channel_object(
+    live: &Live<'_, '_>,
+    shown: &Shown,
+    at: usize,
+    n: usize,
+    list: &mut Listing,
+) -> Result<Vec<u8>, AllocError>
+    ensures { IfOk result (λ v. ListsChannel shown.now.channels live.now.state at n v.items list.old list.new) }
+{
+    let object = channel_bytes(live, *shown.channels.allocator(), n)?;
+    let is_same = shown.is_shown(at, object.as_slice());
+    list.add_unless(is_same, object.as_slice());
+    Ok(object)
+}
+
+// The objects of the channels; those that were not shown are listed.
+fn all_channels(
+    live: &Live<'_, '_>,
+    shown: &Shown,
+    list: &mut Listing,
+) -> Result<Vec<Vec<u8>>, AllocError>
+    ensures { IfOk result (λ v. ListsChannels shown.now.channels live.now.state (map (λ x. x.items) v.items) list.old list.new) }
+{
+    let mut objects = Vec::new(*shown.channels.allocator());
+    for at in 0..live.channels().len() {
+        let object = channel_object(live, shown, at, at + 1, list)?;
+        objects.push(object)?;
+    }
+    Ok(objects)
+}
+
+// The object of a process, which is listed if it is not as it was shown.
+fn process_object(
+    live: &Live<'_, '_>,
+    shown: &Shown,
+    process: usize,
+    all: &Counted<'_>,
+    behind: Behind<'_>,
+    list: &mut Listing,
+) -> Result<Vec<u8>, AllocError>
+    requires { process < MOST_PROCESSES }
+    ensures { all.now ≡ behind.entry.moves.now →
+        IfOk result (λ v. ListsProcess shown.now.processes live.now.state behind.entry process v.items list.old list.new) }
+{
+    let alloc = *shown.processes.allocator();
+    let object = process_bytes(live, alloc, all, process)?;
+    let is_same = shown.is_as_shown(process, behind, object.as_slice());
+    list_process(live, process, object.as_slice(), is_same, behind, list);
+    Ok(object)
+}
+
+// The objects of the processes; those that are not as they were shown are listed.
+fn all_processes(
+    live: &Live<'_, '_>,
+    shown: &Shown,
+    behind: Behind<'_>,
+    list: &mut Listing,
+) -> Result<Vec<Vec<u8>>, AllocError>
+    ensures { let before = shown.now.processes in
+        IfOk result (λ v. ListsBehind before live.now.state behind.entry (map (λ x. x.items) v.items) list.old list.new) }
+{
+    let alloc = *shown.processes.allocator();
+    let moves = Counted::new(alloc, live.process_count(), behind.moves)?;
+    let mut objects = Vec::new(alloc);
+    for process in 0..live.process_count() {
+        let object = process_object(live, shown, process, &moves, behind, list)?;
+        objects.push(object)?;
+    }
+    Ok(objects)
 }

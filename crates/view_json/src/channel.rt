@@ -12,8 +12,8 @@ use crate::objects::{number, value, whole};
 use pml_channel::channel::Channel;
 use pml_program::form::Form;
 use pml_tree::tree::Scalar;
+use run_state::live::Live;
 use view_cells::channels::{add_channel_name, channel_at};
-use view_cells::picture::Picture;
 use view_text::writer::Writer;
 use view_tokens::tokens::Json;
 
@@ -61,29 +61,29 @@ fn form_of(types: &[Form], at: usize) -> Form
     }
 }
 
-fn field(picture: &Picture<'_, '_, '_>, json: &mut Json, types: &[Form], numbers: &[i32], at: usize)
+fn field(live: &Live<'_, '_>, json: &mut Json, types: &[Form], numbers: &[i32], at: usize)
     requires { at < length numbers.now }
-    ensures { Writes json.old json.new (field picture.now.program types.now numbers.now at) }
+    ensures { Writes json.old json.new (field live.now.state.program types.now numbers.now at) }
 {
     let form = form_of(types, at);
     let number = numbers[at];
-    value(picture, json, form, number);
+    value(live, json, form, number);
 }
 
-fn fields(picture: &Picture<'_, '_, '_>, json: &mut Json, types: &[Form], numbers: &[i32])
-    ensures { Writes json.old json.new (fields picture.now.program types.now numbers.now) }
+fn fields(live: &Live<'_, '_>, json: &mut Json, types: &[Form], numbers: &[i32])
+    ensures { Writes json.old json.new (fields live.now.state.program types.now numbers.now) }
 {
     for at in 0..numbers.len() {
-        field(picture, json, types, numbers, at);
+        field(live, json, types, numbers, at);
     }
 }
 
 /// Writes the fields of a message, as an array.
-pub fn message(picture: &Picture<'_, '_, '_>, json: &mut Json, types: &[Form], numbers: &[i32])
-    ensures { Writes json.old json.new (message picture.now.program types.now numbers.now) }
+pub fn message(live: &Live<'_, '_>, json: &mut Json, types: &[Form], numbers: &[i32])
+    ensures { Writes json.old json.new (message live.now.state.program types.now numbers.now) }
 {
     json.begin_array();
-    fields(picture, json, types, numbers);
+    fields(live, json, types, numbers);
     json.end_array();
 }
 
@@ -104,28 +104,28 @@ fn types(json: &mut Json, types: &[Form])
     json.end_array();
 }
 
-fn all_messages(picture: &Picture<'_, '_, '_>, json: &mut Json, channel: &Channel)
-    ensures { Writes json.old json.new (flat_map (message picture.now.program channel.now.types) channel.now.messages) }
+fn all_messages(live: &Live<'_, '_>, json: &mut Json, channel: &Channel)
+    ensures { Writes json.old json.new (flat_map (message live.now.state.program channel.now.types) channel.now.messages) }
 {
     for place in 0..channel.len() {
-        message(picture, json, channel.types(), channel.message(place));
+        message(live, json, channel.types(), channel.message(place));
     }
 }
 
-fn messages(picture: &Picture<'_, '_, '_>, json: &mut Json, channel: &Channel)
-    ensures { Writes json.old json.new (messages picture.now.program channel.now) }
+fn messages(live: &Live<'_, '_>, json: &mut Json, channel: &Channel)
+    ensures { Writes json.old json.new (messages live.now.state.program channel.now) }
 {
     json.key("messages");
     json.begin_array();
-    all_messages(picture, json, channel);
+    all_messages(live, json, channel);
     json.end_array();
 }
 
-fn channel_name(picture: &Picture<'_, '_, '_>, json: &mut Json, n: usize)
+fn channel_name(live: &Live<'_, '_>, json: &mut Json, n: usize)
     ensures { (name : Option (List ℕ)) × Writes json.old json.new (or_null name) }
 {
     let mut name = Writer::new(json.allocator());
-    if add_channel_name(picture, n, &mut name) {
+    if add_channel_name(live, n, &mut name) {
         whole(json, &name);
     } else {
         json.null();
@@ -133,38 +133,38 @@ fn channel_name(picture: &Picture<'_, '_, '_>, json: &mut Json, n: usize)
 }
 
 // Writes what a channel has.
-fn contents(picture: &Picture<'_, '_, '_>, json: &mut Json, channel: &Channel)
-    ensures { Writes json.old json.new (contents picture.now.program (Some channel.now)) }
+fn contents(live: &Live<'_, '_>, json: &mut Json, channel: &Channel)
+    ensures { Writes json.old json.new (contents live.now.state.program (Some channel.now)) }
 {
     number(json, "capacity", usize::from(channel.capacity()));
     types(json, channel.types());
-    messages(picture, json, channel);
+    messages(live, json, channel);
 }
 
 // Writes what the channel with this number has.
-fn contents_at(picture: &Picture<'_, '_, '_>, json: &mut Json, n: usize)
-    ensures { Writes json.old json.new (contents picture.now.program (channel_at picture.now.channels (pos n))) }
+fn contents_at(live: &Live<'_, '_>, json: &mut Json, n: usize)
+    ensures { Writes json.old json.new (contents live.now.state.program (channel_at live.now.state.channels (pos n))) }
 {
-    if let Some(channel) = channel_at(picture, n) {
-        contents(picture, json, channel);
+    if let Some(channel) = channel_at(live, n) {
+        contents(live, json, channel);
     }
 }
 
 // Writes the number of a channel and its name.
-pub(crate) fn channel_heading(picture: &Picture<'_, '_, '_>, json: &mut Json, n: usize)
+pub(crate) fn channel_heading(live: &Live<'_, '_>, json: &mut Json, n: usize)
     ensures { (name : Option (List ℕ)) × Writes json.old json.new (channel_heading n name) }
 {
     number(json, "chan", n);
     json.key("name");
-    channel_name(picture, json, n);
+    channel_name(live, json, n);
 }
 
 /// Writes a channel.
-pub fn channel(picture: &Picture<'_, '_, '_>, json: &mut Json, n: usize)
-    ensures { AddsChannel picture.now n json.old json.new }
+pub fn channel(live: &Live<'_, '_>, json: &mut Json, n: usize)
+    ensures { AddsChannel live.now.state n json.old json.new }
 {
     json.begin_object();
-    channel_heading(picture, json, n);
-    contents_at(picture, json, n);
+    channel_heading(live, json, n);
+    contents_at(live, json, n);
     json.end_object();
 }

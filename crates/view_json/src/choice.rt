@@ -12,8 +12,8 @@ use crate::lines::{ending, transfer};
 use crate::list::Listing;
 use crate::singles::{Singles, add_alone};
 use promela_run::moves::Move;
+use run_state::live::Live;
 use std::alloc::Global;
-use view_cells::picture::Picture;
 use view_tokens::tokens::Json;
 use view_waits::transfer::{Transfer, transfer_of};
 
@@ -37,70 +37,70 @@ impl Before {
 }
 
 // Writes the death of a process, which does this.
-fn dying(picture: &Picture<'_, '_, '_>, json: &mut Json, process: usize, done: &Transfer)
-    ensures { AddsChoice picture.now (Death process) json.old json.new }
+fn dying(live: &Live<'_, '_>, json: &mut Json, process: usize, done: &Transfer)
+    ensures { AddsChoice live.now.state (Death process) json.old json.new }
 {
     json.begin_object();
-    ending(picture, json, process);
-    transfer(picture, json, done);
-    effect_of(picture, json, done);
+    ending(live, json, process);
+    transfer(live, json, done);
+    effect_of(live, json, done);
     json.end_object();
 }
 
 // Writes the death of a process.
-fn add_death(picture: &Picture<'_, '_, '_>, json: &mut Json, process: usize)
-    ensures { AddsChoice picture.now (Death process) json.old json.new }
+fn add_death(live: &Live<'_, '_>, json: &mut Json, process: usize)
+    ensures { AddsChoice live.now.state (Death process) json.old json.new }
 {
-    match transfer_of(json.allocator(), picture, &Move::Death(process)) {
-        Ok(done) => dying(picture, json, process, &done),
+    match transfer_of(json.allocator(), live, &Move::Death(process)) {
+        Ok(done) => dying(live, json, process, &done),
         Err(_) => json.refuse(),
     }
 }
 
 // Writes a move of the state that is seen, as an object: whose it is, what it does, and with whom, where this was written before.
-fn add_choice(picture: &Picture<'_, '_, '_>, json: &mut Json, m: Move, before: &mut Before)
-    requires { Goes picture.now before.old }
-    ensures choice { AddsChoice picture.now m json.old json.new }
-    ensures goes { Goes picture.now before.new }
+fn add_choice(live: &Live<'_, '_>, json: &mut Json, m: Move, before: &mut Before)
+    requires { Goes live.now.state before.old }
+    ensures choice { AddsChoice live.now.state m json.old json.new }
+    ensures goes { Goes live.now.state before.new }
 {
     match m {
-        Move::Death(process) => add_death(picture, json, process),
-        Move::Alone(pick, is_late) => add_alone(picture, json, pick, is_late, &mut before.alone),
+        Move::Death(process) => add_death(live, json, process),
+        Move::Alone(pick, is_late) => add_alone(live, json, pick, is_late, &mut before.alone),
         Move::Pair(sender, receiver, is_late) => {
-            add_pair(picture, json, sender, receiver, is_late, &mut before.pair)
+            add_pair(live, json, sender, receiver, is_late, &mut before.pair)
         }
     }
 }
 
 /// Writes moves of the state that is seen, each as an object.
-pub fn add_choices(picture: &Picture<'_, '_, '_>, json: &mut Json, moves: &[Move])
-    ensures { AddsChoices picture.now moves.now json.old json.new }
+pub fn add_choices(live: &Live<'_, '_>, json: &mut Json, moves: &[Move])
+    ensures { AddsChoices live.now.state moves.now json.old json.new }
 {
     let mut before = Before::new(json.allocator(), moves.len());
     for m in moves {
-        add_choice(picture, json, *m, &mut before);
+        add_choice(live, json, *m, &mut before);
     }
 }
 
 // Several moves, each as an object.
-fn all_of(picture: &Picture<'_, '_, '_>, alloc: Global, moves: &[Move]) -> Listing
+fn all_of(live: &Live<'_, '_>, alloc: Global, moves: &[Move]) -> Listing
     requires { 1 < length moves.now }
-    ensures { ListsChoices picture.now moves.now result }
+    ensures { ListsChoices live.now.state moves.now result }
 {
     let mut list = Listing::new(alloc);
     let mut json = Json::new(alloc);
-    add_choices(picture, &mut json, moves);
+    add_choices(live, &mut json, moves);
     list.next();
     json.finish(&mut list.text);
     list
 }
 
 /// The moves of the state that is seen, each as an object, where there are several.
-pub fn choices_of(picture: &Picture<'_, '_, '_>, alloc: Global, moves: &[Move]) -> Listing
-    ensures { ListsChoices picture.now moves.now result }
+pub fn choices_of(live: &Live<'_, '_>, alloc: Global, moves: &[Move]) -> Listing
+    ensures { ListsChoices live.now.state moves.now result }
 {
     if moves.len() > 1 {
-        all_of(picture, alloc, moves)
+        all_of(live, alloc, moves)
     } else {
         Listing::new(alloc)
     }

@@ -7,9 +7,9 @@ ghost use Rattle.view_waits.specs.Waits.{takes_part, waits as all_waits};
 ghost use Rattle.view_json.specs.Counts.{AreCounts, OneMore, other_taker};
 
 use promela_run::moves::Move;
+use run_state::live::Live;
 use std::alloc::{AllocError, Global};
 use std::marker::Model;
-use view_cells::picture::Picture;
 use view_waits::waits::{Wait, add_waits, moves_of, starter_of};
 
 // Who takes part in a move beside who begins it, or else who begins it.
@@ -95,16 +95,16 @@ impl<'m> Counted<'m> {
 
     /// Adds what a process waits for, where these are the present moves: nothing, where it takes part in one.
     pub fn add_waits(
-        &self,
-        picture: &Picture<'_, '_, '_>,
+        &'m self,
+        live: &'m Live<'_, '_>,
         process: usize,
         waits: &mut Vec<Wait>,
     ) -> Result<(), AllocError>
-        ensures { self.now ≡ all_moves picture.now → OnOk result (waits.new.items ≡ waits.old.items ++ all_waits picture.now process) }
+        ensures { self.now ≡ all_moves live.now.state → OnOk result (waits.new.items ≡ waits.old.items ++ all_waits live.now.state process) }
     {
         if self.of(process) > 0 {
             return Ok(());
         }
-        add_waits(picture, self.moves, process, waits)
+        add_waits(live, self.moves, process, waits)
     }
 }

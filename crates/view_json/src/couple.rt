@@ -12,8 +12,8 @@ ghost use Rattle.view_json.specs.Before.{Deals, Meets, AreSeen, couple_alike};
 use crate::deal::{Deal, keep_deal};
 use crate::known::{Known, Seen, is_alike, know};
 use promela_run::moves::Pick;
+use run_state::live::Live;
 use std::alloc::Global;
-use view_cells::picture::Picture;
 use view_tokens::tokens::Json;
 
 /// What was written of a rendezvous, from its sender, its receiver, and what it does.
@@ -62,16 +62,16 @@ pub(crate) fn are_alike(last: &Couple, of: Meeting<'_>) -> bool
 }
 
 // Whether a rendezvous of the same processes at the same offers has the same object.
-fn is_same(picture: &Picture<'_, '_, '_>, of: Meeting<'_>, last: &Couple) -> bool
+fn is_same(live: &Live<'_, '_>, of: Meeting<'_>, last: &Couple) -> bool
     ensures { result ≡ true → last.now.whole.refused ≡ false }
 {
-    !last.whole.is_refused() && last.deal.is_of(picture, of.sender, of.receiver, of.is_late)
+    !last.whole.is_refused() && last.deal.is_of(live, of.sender, of.receiver, of.is_late)
 }
 
 // Writes the receiver of a rendezvous.
-fn add_partner(picture: &Picture<'_, '_, '_>, json: &mut Json, receiver: &Known)
-    requires { Knows picture.now receiver.now }
-    ensures { Writes json.old json.new (member (codes "to") (object (actor picture.now receiver.now.pick))) }
+fn add_partner(live: &Live<'_, '_>, json: &mut Json, receiver: &Known)
+    requires { Knows live.now.state receiver.now }
+    ensures { Writes json.old json.new (member (codes "to") (object (actor live.now.state receiver.now.pick))) }
 {
     json.key("to");
     json.begin_object();
@@ -80,40 +80,34 @@ fn add_partner(picture: &Picture<'_, '_, '_>, json: &mut Json, receiver: &Known)
 }
 
 // Writes a rendezvous.
-fn write(
-    picture: &Picture<'_, '_, '_>,
-    json: &mut Json,
-    sender: &Known,
-    receiver: &Known,
-    deal: &Deal,
-)
-    requires sender { Knows picture.now sender.now }
-    requires receiver { Knows picture.now receiver.now }
-    requires deal { Deals picture.now deal.now }
-    ensures { (is_late : Bool) → AddsChoice picture.now (Pair sender.now.pick receiver.now.pick is_late) json.old json.new }
+fn write(live: &Live<'_, '_>, json: &mut Json, sender: &Known, receiver: &Known, deal: &Deal)
+    requires sender { Knows live.now.state sender.now }
+    requires receiver { Knows live.now.state receiver.now }
+    requires deal { Deals live.now.state deal.now }
+    ensures { (is_late : Bool) → AddsChoice live.now.state (Pair sender.now.pick receiver.now.pick is_late) json.old json.new }
 {
     json.begin_object();
     json.join(&sender.written);
     json.join(&deal.done);
-    add_partner(picture, json, receiver);
+    add_partner(live, json, receiver);
     json.join(&deal.effect);
     json.end_object();
 }
 
 // Writes a rendezvous anew.
-fn renew(picture: &Picture<'_, '_, '_>, of: Meeting<'_>, last: &mut Couple)
-    requires meets { Meets picture.now last.old }
-    requires seen { AreSeen picture.now of }
-    ensures meets { Meets picture.now last.new }
+fn renew(live: &Live<'_, '_>, of: Meeting<'_>, last: &mut Couple)
+    requires meets { Meets live.now.state last.old }
+    requires seen { AreSeen live.now.state of }
+    ensures meets { Meets live.now.state last.new }
     ensures sender { last.new.first.pick ≡ of.entry.sender }
     ensures receiver { last.new.partner.pick ≡ of.entry.receiver }
 {
-    know(picture, of.sender, of.first, &mut last.first);
-    know(picture, of.receiver, of.partner, &mut last.partner);
-    keep_deal(picture, of.sender, of.receiver, of.is_late, &mut last.deal);
+    know(live, of.sender, of.first, &mut last.first);
+    know(live, of.receiver, of.partner, &mut last.partner);
+    keep_deal(live, of.sender, of.receiver, of.is_late, &mut last.deal);
     last.whole.clear();
     write(
-        picture,
+        live,
         &mut last.whole,
         &last.first,
         &last.partner,
@@ -135,66 +129,56 @@ fn go_on(of: Meeting<'_>, last: &mut Couple)
 }
 
 // Writes a rendezvous that is seen as this was, where it is not the same as before.
-fn settle(picture: &Picture<'_, '_, '_>, of: Meeting<'_>, last: &mut Couple)
-    requires meets { Meets picture.now last.old }
-    requires seen { AreSeen picture.now of }
+fn settle(live: &Live<'_, '_>, of: Meeting<'_>, last: &mut Couple)
+    requires meets { Meets live.now.state last.old }
+    requires seen { AreSeen live.now.state of }
     requires first { alike last.old.first of.sender.process of.first ≡ true }
     requires partner { alike last.old.partner of.receiver.process of.partner ≡ true }
-    ensures meets { Meets picture.now last.new }
+    ensures meets { Meets live.now.state last.new }
     ensures sender { last.new.first.pick ≡ of.entry.sender }
     ensures receiver { last.new.partner.pick ≡ of.entry.receiver }
 {
-    if is_same(picture, of, last) {
+    if is_same(live, of, last) {
         go_on(of, last);
         return;
     }
-    renew(picture, of, last);
+    renew(live, of, last);
 }
 
 /// Writes a rendezvous again, where this was written before of one that is seen so.
-pub(crate) fn add_again(
-    picture: &Picture<'_, '_, '_>,
-    json: &mut Json,
-    of: Meeting<'_>,
-    last: &mut Couple,
-)
-    requires meets { Meets picture.now last.old }
-    requires seen { AreSeen picture.now of }
+pub(crate) fn add_again(live: &Live<'_, '_>, json: &mut Json, of: Meeting<'_>, last: &mut Couple)
+    requires meets { Meets live.now.state last.old }
+    requires seen { AreSeen live.now.state of }
     requires first { alike last.old.first of.sender.process of.first ≡ true }
     requires partner { alike last.old.partner of.receiver.process of.partner ≡ true }
-    ensures choice { AddsChoice picture.now (Pair of.entry.sender of.entry.receiver of.entry.is_late) json.old json.new }
-    ensures meets { Meets picture.now last.new }
+    ensures choice { AddsChoice live.now.state (Pair of.entry.sender of.entry.receiver of.entry.is_late) json.old json.new }
+    ensures meets { Meets live.now.state last.new }
 {
-    settle(picture, of, last);
+    settle(live, of, last);
     json.join(&last.whole);
 }
 
 // Writes a rendezvous that is not known.
-fn add_anew(picture: &Picture<'_, '_, '_>, json: &mut Json, of: Meeting<'_>, last: &mut Couple)
-    requires meets { Meets picture.now last.old }
-    requires seen { AreSeen picture.now of }
-    ensures choice { AddsChoice picture.now (Pair of.entry.sender of.entry.receiver of.entry.is_late) json.old json.new }
-    ensures meets { Meets picture.now last.new }
+fn add_anew(live: &Live<'_, '_>, json: &mut Json, of: Meeting<'_>, last: &mut Couple)
+    requires meets { Meets live.now.state last.old }
+    requires seen { AreSeen live.now.state of }
+    ensures choice { AddsChoice live.now.state (Pair of.entry.sender of.entry.receiver of.entry.is_late) json.old json.new }
+    ensures meets { Meets live.now.state last.new }
 {
-    renew(picture, of, last);
+    renew(live, of, last);
     json.join(&last.whole);
 }
 
 /// Writes a rendezvous, where this was written before.
-pub(crate) fn add_couple(
-    picture: &Picture<'_, '_, '_>,
-    json: &mut Json,
-    of: Meeting<'_>,
-    last: &mut Couple,
-)
-    requires meets { Meets picture.now last.old }
-    requires seen { AreSeen picture.now of }
-    ensures choice { AddsChoice picture.now (Pair of.entry.sender of.entry.receiver of.entry.is_late) json.old json.new }
-    ensures meets { Meets picture.now last.new }
+pub(crate) fn add_couple(live: &Live<'_, '_>, json: &mut Json, of: Meeting<'_>, last: &mut Couple)
+    requires meets { Meets live.now.state last.old }
+    requires seen { AreSeen live.now.state of }
+    ensures choice { AddsChoice live.now.state (Pair of.entry.sender of.entry.receiver of.entry.is_late) json.old json.new }
+    ensures meets { Meets live.now.state last.new }
 {
     if are_alike(last, of) {
-        add_again(picture, json, of, last);
+        add_again(live, json, of, last);
     } else {
-        add_anew(picture, json, of, last);
+        add_anew(live, json, of, last);
     }
 }

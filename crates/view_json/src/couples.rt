@@ -12,8 +12,8 @@ use crate::couple::{Couple, Meeting, add_again, add_couple, are_alike};
 use crate::known::seen_at;
 use crate::singles::{behind, most_of};
 use promela_run::moves::Pick;
+use run_state::live::Live;
 use std::alloc::Global;
-use view_cells::picture::Picture;
 use view_tokens::tokens::Json;
 
 /// The last rendezvous that differ, and the place of the last of all.
@@ -85,21 +85,15 @@ fn place_for(of: Meeting<'_>, last: &mut Couples) -> usize
 }
 
 // Writes a rendezvous at a place.
-fn add_at(
-    picture: &Picture<'_, '_, '_>,
-    json: &mut Json,
-    of: Meeting<'_>,
-    at: usize,
-    last: &mut Couples,
-)
-    requires meet { All (Meets picture.now) last.old.all.items }
-    requires seen { AreSeen picture.now of }
-    ensures choice { AddsChoice picture.now (Pair of.entry.sender of.entry.receiver of.entry.is_late) json.old json.new }
-    ensures meet { All (Meets picture.now) last.new.all.items }
+fn add_at(live: &Live<'_, '_>, json: &mut Json, of: Meeting<'_>, at: usize, last: &mut Couples)
+    requires meet { All (Meets live.now.state) last.old.all.items }
+    requires seen { AreSeen live.now.state of }
+    ensures choice { AddsChoice live.now.state (Pair of.entry.sender of.entry.receiver of.entry.is_late) json.old json.new }
+    ensures meet { All (Meets live.now.state) last.new.all.items }
 {
     last.at = at;
     if at < last.all.len() {
-        add_couple(picture, json, of, &mut last.all[at]);
+        add_couple(live, json, of, &mut last.all[at]);
     } else {
         json.refuse();
     }
@@ -107,30 +101,30 @@ fn add_at(
 
 /// Writes a rendezvous, where this was written before.
 pub(crate) fn add_pair(
-    picture: &Picture<'_, '_, '_>,
+    live: &Live<'_, '_>,
     json: &mut Json,
     sender: Pick,
     receiver: Pick,
     is_late: bool,
     last: &mut Couples,
 )
-    requires { All (Meets picture.now) last.old.all.items }
-    ensures choice { AddsChoice picture.now (Pair sender receiver is_late) json.old json.new }
-    ensures meet { All (Meets picture.now) last.new.all.items }
+    requires { All (Meets live.now.state) last.old.all.items }
+    ensures choice { AddsChoice live.now.state (Pair sender receiver is_late) json.old json.new }
+    ensures meet { All (Meets live.now.state) last.new.all.items }
 {
     let of = Meeting {
         sender,
         receiver,
         is_late,
-        first: seen_at(picture, sender),
-        partner: seen_at(picture, receiver),
+        first: seen_at(live, sender),
+        partner: seen_at(live, receiver),
     };
     let at = last.at;
     if at < last.all.len() {
         if are_alike(&last.all[at], of) {
-            return add_again(picture, json, of, &mut last.all[at]);
+            return add_again(live, json, of, &mut last.all[at]);
         }
     }
     let at = place_for(of, last);
-    add_at(picture, json, of, at, last);
+    add_at(live, json, of, at, last);
 }

@@ -11,8 +11,8 @@ ghost use Rattle.view_json.specs.Before.{Deals, IsWritten};
 use crate::lines::transfer;
 use crate::objects::detail;
 use promela_run::moves::{Move, Pick};
+use run_state::live::Live;
 use std::alloc::Global;
-use view_cells::picture::Picture;
 use view_state::choices::add_effect;
 use view_text::writer::Writer;
 use view_tokens::tokens::Json;
@@ -39,29 +39,24 @@ fn are_same(one: &Transfer, other: &Transfer) -> bool
 }
 
 /// Whether a move does this with a message; one that neither sends nor receives does nothing.
-pub(crate) fn does_same(
-    picture: &Picture<'_, '_, '_>,
-    m: Move,
-    deals: bool,
-    done: &Transfer,
-) -> bool
+pub(crate) fn does_same(live: &Live<'_, '_>, m: Move, deals: bool, done: &Transfer) -> bool
     ensures { deals ≡ false → Decides result (done.now.does ≡ Statement) }
 {
     if !deals {
         return done.does == Does::Statement;
     }
-    match transfer_of(*done.message.allocator(), picture, &m) {
+    match transfer_of(*done.message.allocator(), live, &m) {
         Ok(by) => are_same(&by, done),
         Err(_) => false,
     }
 }
 
 /// Writes what a move does with a message in words, without the blank before them, if it does anything.
-pub(crate) fn effect_of(picture: &Picture<'_, '_, '_>, json: &mut Json, done: &Transfer)
+pub(crate) fn effect_of(live: &Live<'_, '_>, json: &mut Json, done: &Transfer)
     ensures { (words : List ℕ) × Writes json.old json.new (detail (codes "effect") words) }
 {
     let mut words = Writer::new(json.allocator());
-    add_effect(picture, done, &mut words);
+    add_effect(live, done, &mut words);
     let bytes = words.bytes();
     let bare = bytes.strip_prefix(b" ").unwrap_or(bytes);
     detail(json, "effect", bare, &words);
@@ -96,7 +91,7 @@ impl Deal {
     }
 
     /// Whether a rendezvous of this sender does the same.
-    pub fn is_of(&self, picture: &Picture<'_, '_, '_>, of: Pick, to: Pick, is_late: bool) -> bool
+    pub fn is_of(&self, live: &Live<'_, '_>, of: Pick, to: Pick, is_late: bool) -> bool
         ensures written { result ≡ true → IsWritten self.now }
         ensures same { IsWritten self.now → self.now.of ≡ of → self.now.is_late ≡ is_late → result ≡ true }
     {
@@ -106,7 +101,7 @@ impl Deal {
         if self.of == of && self.is_late == is_late {
             return true;
         }
-        does_same(picture, Move::Pair(of, to, is_late), true, &self.by)
+        does_same(live, Move::Pair(of, to, is_late), true, &self.by)
     }
 
     /// The same of another sender.
@@ -120,22 +115,22 @@ impl Deal {
 }
 
 // Writes what a send does anew.
-fn write(picture: &Picture<'_, '_, '_>, by: &Transfer, last: &mut Deal)
-    ensures { Deals picture.now last.new }
+fn write(live: &Live<'_, '_>, by: &Transfer, last: &mut Deal)
+    ensures { Deals live.now.state last.new }
 {
     last.done.clear();
-    transfer(picture, &mut last.done, by);
+    transfer(live, &mut last.done, by);
     last.effect.clear();
-    effect_of(picture, &mut last.effect, by);
+    effect_of(live, &mut last.effect, by);
 }
 
 // Writes what a send does anew, where nothing is known of it.
-fn renew(picture: &Picture<'_, '_, '_>, of: Pick, to: Pick, is_late: bool, last: &mut Deal)
-    ensures { Deals picture.now last.new }
+fn renew(live: &Live<'_, '_>, of: Pick, to: Pick, is_late: bool, last: &mut Deal)
+    ensures { Deals live.now.state last.new }
 {
-    match transfer_of(last.done.allocator(), picture, &Move::Pair(of, to, is_late)) {
+    match transfer_of(last.done.allocator(), live, &Move::Pair(of, to, is_late)) {
         Ok(by) => {
-            write(picture, &by, last);
+            write(live, &by, last);
             last.of = of;
             last.is_late = is_late;
             last.by = by;
@@ -145,19 +140,13 @@ fn renew(picture: &Picture<'_, '_, '_>, of: Pick, to: Pick, is_late: bool, last:
 }
 
 /// Writes what a send does, where it is not the same as before.
-pub(crate) fn keep_deal(
-    picture: &Picture<'_, '_, '_>,
-    of: Pick,
-    to: Pick,
-    is_late: bool,
-    last: &mut Deal,
-)
-    requires { Deals picture.now last.old }
-    ensures { Deals picture.now last.new }
+pub(crate) fn keep_deal(live: &Live<'_, '_>, of: Pick, to: Pick, is_late: bool, last: &mut Deal)
+    requires { Deals live.now.state last.old }
+    ensures { Deals live.now.state last.new }
 {
-    if last.is_of(picture, of, to, is_late) {
+    if last.is_of(live, of, to, is_late) {
         last.go_on(of, is_late);
         return;
     }
-    renew(picture, of, to, is_late, last);
+    renew(live, of, to, is_late, last);
 }

@@ -14,7 +14,6 @@ use run_search::picked::picked as offer_of;
 use run_state::live::Live;
 use run_state::seat::{Seat, seat_at};
 use std::alloc::Global;
-use view_cells::picture::Picture;
 use view_tokens::tokens::Json;
 
 /// What was written of a process at an offer, from the offer's line and text, and from where it stands behind it.
@@ -128,10 +127,10 @@ pub(crate) fn deals_at(live: &Live<'_, '_>, pick: Pick) -> bool
 }
 
 /// The offer that a pick names.
-pub(crate) fn seen_at<'p>(picture: &Picture<'_, 'p, '_>, pick: Pick) -> Seen<'p>
-    ensures { IsSeen picture.now pick result }
+pub(crate) fn seen_at<'p>(live: &Live<'p, '_>, pick: Pick) -> Seen<'p>
+    ensures { IsSeen live.now.state pick result }
 {
-    seen_in_live(picture.live(), pick)
+    seen_in_live(live, pick)
 }
 
 /// The text of the offer that a pick names, with its line.
@@ -156,16 +155,16 @@ pub(crate) fn is_alike(known: &Known, process: usize, seen: Seen<'_>) -> bool
 }
 
 // Writes a process at an offer anew.
-fn write(picture: &Picture<'_, '_, '_>, pick: Pick, seen: Seen<'_>, known: &mut Known)
-    requires { IsSeen picture.now pick seen }
-    ensures knows { Knows picture.now known.new }
+fn write(live: &Live<'_, '_>, pick: Pick, seen: Seen<'_>, known: &mut Known)
+    requires { IsSeen live.now.state pick seen }
+    ensures knows { Knows live.now.state known.new }
     ensures pick { known.new.pick ≡ pick }
 {
     known.pick = pick;
     known.line = seen.line;
     known.next = seen.next;
     known.written.clear();
-    actor(picture, &mut known.written, pick);
+    actor(live, &mut known.written, pick);
     known.text.clear();
     if known.text.extend_from_slice(seen.text).is_err() {
         known.written.refuse();
@@ -173,15 +172,15 @@ fn write(picture: &Picture<'_, '_, '_>, pick: Pick, seen: Seen<'_>, known: &mut 
 }
 
 /// Writes a process at an offer that is seen so, where it is not known.
-pub(crate) fn know(picture: &Picture<'_, '_, '_>, pick: Pick, seen: Seen<'_>, known: &mut Known)
-    requires known { Knows picture.now known.old }
-    requires seen { IsSeen picture.now pick seen }
-    ensures knows { Knows picture.now known.new }
+pub(crate) fn know(live: &Live<'_, '_>, pick: Pick, seen: Seen<'_>, known: &mut Known)
+    requires known { Knows live.now.state known.old }
+    requires seen { IsSeen live.now.state pick seen }
+    ensures knows { Knows live.now.state known.new }
     ensures pick { known.new.pick ≡ pick }
 {
     if is_alike(known, pick.process, seen) {
         known.pick = pick;
         return;
     }
-    write(picture, pick, seen, known);
+    write(live, pick, seen, known);
 }

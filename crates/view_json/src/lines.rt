@@ -25,10 +25,10 @@ pub use crate::steps::{Done, Note, add_step};
 use crate::texts::move_texts;
 use diagnostics::Fault;
 use promela_run::moves::{Move, Pick};
+use run_state::live::Live;
 use run_texts::ends::stuck as pml_stuck;
 use std::alloc::Global;
 use view_cells::channels::channel_at;
-use view_cells::picture::Picture;
 use view_cells::processes::line_of;
 use view_text::writer::Writer;
 use view_tokens::tokens::Json;
@@ -57,12 +57,12 @@ pub fn begin(alloc: Global, event: &str) -> Json
 }
 
 // Writes the texts of the present moves.
-fn texts(picture: &Picture<'_, '_, '_>, json: &mut Json, moves: &[Move])
-    ensures { Writes json.old json.new (texts picture.now moves.now) }
+fn texts(live: &Live<'_, '_>, json: &mut Json, moves: &[Move])
+    ensures { Writes json.old json.new (texts live.now.state moves.now) }
 {
     json.key("moves");
     json.begin_array();
-    move_texts(picture, json, moves);
+    move_texts(live, json, moves);
     json.end_array();
 }
 
@@ -81,96 +81,90 @@ fn does(does: Does) -> &'static str
 }
 
 // Writes a process that ends, and the line of its closing brace.
-pub(crate) fn ending(picture: &Picture<'_, '_, '_>, json: &mut Json, process: usize)
-    ensures { Writes json.old json.new (mover picture.now (Death process)) }
+pub(crate) fn ending(live: &Live<'_, '_>, json: &mut Json, process: usize)
+    ensures { Writes json.old json.new (mover live.now.state (Death process)) }
 {
-    named(picture, json, process);
-    number(json, "line", line_of(picture, process) as usize);
+    named(live, json, process);
+    number(json, "line", line_of(live, process) as usize);
     text(json, "text", b"-end-");
 }
 
 // Writes whose move it is, and its text.
-fn mover(picture: &Picture<'_, '_, '_>, json: &mut Json, m: &Move)
-    ensures { Writes json.old json.new (mover picture.now m.now) }
+fn mover(live: &Live<'_, '_>, json: &mut Json, m: &Move)
+    ensures { Writes json.old json.new (mover live.now.state m.now) }
 {
     match m {
-        Move::Death(process) => ending(picture, json, *process),
-        Move::Alone(pick, _) => picked(picture, json, *pick),
-        Move::Pair(sender, _, _) => picked(picture, json, *sender),
+        Move::Death(process) => ending(live, json, *process),
+        Move::Alone(pick, _) => picked(live, json, *pick),
+        Move::Pair(sender, _, _) => picked(live, json, *sender),
     }
 }
 
 // Writes with which channel something is done, and with which message.
-fn passed(picture: &Picture<'_, '_, '_>, json: &mut Json, transfer: &Transfer)
-    ensures { Writes json.old json.new (passed picture.now.program transfer.now (channel_at picture.now.channels (pos transfer.now.channel))) }
+fn passed(live: &Live<'_, '_>, json: &mut Json, transfer: &Transfer)
+    ensures { Writes json.old json.new (passed live.now.state.program transfer.now (channel_at live.now.state.channels (pos transfer.now.channel))) }
 {
-    if let Some(channel) = channel_at(picture, transfer.channel) {
+    if let Some(channel) = channel_at(live, transfer.channel) {
         number(json, "chan", transfer.channel);
         json.key("message");
-        message(picture, json, channel.types(), transfer.message.as_slice());
+        message(live, json, channel.types(), transfer.message.as_slice());
     }
 }
 
 // Writes what it does with a message.
-pub(crate) fn transfer(picture: &Picture<'_, '_, '_>, json: &mut Json, done: &Transfer)
-    ensures { Writes json.old json.new (transfer picture.now done.now) }
+pub(crate) fn transfer(live: &Live<'_, '_>, json: &mut Json, done: &Transfer)
+    ensures { Writes json.old json.new (transfer live.now.state done.now) }
 {
     json.key("does");
     json.string(does(done.does));
-    passed(picture, json, done);
+    passed(live, json, done);
 }
 
 // Writes to whom a message goes.
-fn addressee(picture: &Picture<'_, '_, '_>, json: &mut Json, pick: Pick)
-    ensures { Writes json.old json.new (addressee picture.now pick) }
+fn addressee(live: &Live<'_, '_>, json: &mut Json, pick: Pick)
+    ensures { Writes json.old json.new (addressee live.now.state pick) }
 {
     json.key("to");
     json.begin_object();
-    picked(picture, json, pick);
+    picked(live, json, pick);
     json.end_object();
 }
 
-fn receiver(picture: &Picture<'_, '_, '_>, json: &mut Json, m: &Move)
-    ensures { Writes json.old json.new (receiver picture.now m.now) }
+fn receiver(live: &Live<'_, '_>, json: &mut Json, m: &Move)
+    ensures { Writes json.old json.new (receiver live.now.state m.now) }
 {
     if let Move::Pair(_, receiver, _) = m {
-        addressee(picture, json, *receiver);
+        addressee(live, json, *receiver);
     }
 }
 
-fn choices(picture: &Picture<'_, '_, '_>, json: &mut Json, moves: &[Move])
-    ensures { Writes json.old json.new (choices picture.now moves.now) }
+fn choices(live: &Live<'_, '_>, json: &mut Json, moves: &[Move])
+    ensures { Writes json.old json.new (choices live.now.state moves.now) }
 {
     if moves.len() > 1 {
-        texts(picture, json, moves);
+        texts(live, json, moves);
     }
 }
 
 // Writes the number of a step, and which of how many moves it is.
-fn chosen(picture: &Picture<'_, '_, '_>, json: &mut Json, ahead: Ahead<'_>)
-    ensures { Writes json.old json.new (chosen picture.now ahead.entry.step ahead.entry.choice ahead.entry.moves.now) }
+fn chosen(live: &Live<'_, '_>, json: &mut Json, ahead: Ahead<'_>)
+    ensures { Writes json.old json.new (chosen live.now.state ahead.entry.step ahead.entry.choice ahead.entry.moves.now) }
 {
     number(json, "step", ahead.step);
     number(json, "choice", ahead.choice);
     number(json, "of", ahead.moves.len());
-    choices(picture, json, ahead.moves);
+    choices(live, json, ahead.moves);
 }
 
 /// What is told of a step before it is taken: `event` is `step`, or `fault` where it comes to one.
-pub fn front(
-    picture: &Picture<'_, '_, '_>,
-    alloc: Global,
-    event: &str,
-    ahead: Ahead<'_>,
-    m: &Move,
-) -> Json
-    ensures { result.refused ≡ false → result.tokens ≡ front picture.now event.now ahead.entry m.now }
+pub fn front(live: &Live<'_, '_>, alloc: Global, event: &str, ahead: Ahead<'_>, m: &Move) -> Json
+    ensures { result.refused ≡ false → result.tokens ≡ front live.now.state event.now ahead.entry m.now }
 {
     let mut json = begin(alloc, event);
-    chosen(picture, &mut json, ahead);
-    mover(picture, &mut json, m);
-    transfer(picture, &mut json, ahead.transfer);
-    receiver(picture, &mut json, m);
+    chosen(live, &mut json, ahead);
+    mover(live, &mut json, m);
+    transfer(live, &mut json, ahead.transfer);
+    receiver(live, &mut json, m);
     json
 }
 
@@ -191,52 +185,52 @@ fn bare<'l>(line: &'l [u8], heading: &[u8]) -> &'l [u8] {
 }
 
 // Writes what the statement of a move read, and what its fault was about.
-fn details(picture: &Picture<'_, '_, '_>, json: &mut Json, m: &Move, fault: Fault)
+fn details(live: &Live<'_, '_>, json: &mut Json, m: &Move, fault: Fault)
     ensures { (reads about : List ℕ) × Writes json.old json.new (detail (codes "reads") reads ++ detail (codes "about") about) }
 {
     let mut reads = Writer::new(json.allocator());
-    add_statement_reads(picture, m, &mut reads);
+    add_statement_reads(live, m, &mut reads);
     let mut about = Writer::new(json.allocator());
-    add_detail(detail_of(picture, m, fault), &mut about);
+    add_detail(detail_of(live, m, fault), &mut about);
     detail(json, "reads", bare(reads.bytes(), b"  reads: "), &reads);
     detail(json, "about", bare(about.bytes(), b"  "), &about);
 }
 
 // Writes moves, each as an object.
-fn each_choice(picture: &Picture<'_, '_, '_>, json: &mut Json, moves: &[Move])
-    ensures { TellsChoices true picture.now moves.now json.old json.new }
+fn each_choice(live: &Live<'_, '_>, json: &mut Json, moves: &[Move])
+    ensures { TellsChoices true live.now.state moves.now json.old json.new }
 {
     json.key("choices");
     json.begin_array();
-    add_choices(picture, json, moves);
+    add_choices(live, json, moves);
     json.end_array();
 }
 
 // Writes moves, each as an object, if there are more than so many.
-fn told_choices(picture: &Picture<'_, '_, '_>, json: &mut Json, most: usize, moves: &[Move])
-    ensures { TellsChoices (ltb most (length moves.now)) picture.now moves.now json.old json.new }
+fn told_choices(live: &Live<'_, '_>, json: &mut Json, most: usize, moves: &[Move])
+    ensures { TellsChoices (ltb most (length moves.now)) live.now.state moves.now json.old json.new }
 {
     if moves.len() > most {
-        each_choice(picture, json, moves);
+        each_choice(live, json, moves);
     }
 }
 
 /// Writes the line of a step by this move, one of these, that came to a fault.
 pub fn add_fault(
-    picture: &Picture<'_, '_, '_>,
+    live: &Live<'_, '_>,
     front: Json,
     m: &Move,
     fault: Fault,
     moves: &[Move],
     out: &mut Writer,
 )
-    ensures { AddsFault picture.now moves.now front.tokens fault out.old out.new }
+    ensures { AddsFault live.now.state moves.now front.tokens fault out.old out.new }
 {
     let mut json = front;
     number(&mut json, "fault", fault.number() as usize);
     text(&mut json, "words", diagnostic_words::of_fault(fault));
-    details(picture, &mut json, m, fault);
-    told_choices(picture, &mut json, 1, moves);
+    details(live, &mut json, m, fault);
+    told_choices(live, &mut json, 1, moves);
     json.end_object();
     end_line(json, out);
 }
@@ -252,44 +246,44 @@ fn stuck_place(json: &mut Json, process: usize, name: &[u8], line: u32)
     json.end_object();
 }
 
-fn stuck(picture: &Picture<'_, '_, '_>, json: &mut Json, process: usize)
-    ensures { Writes json.old json.new (stuck picture.now process) }
+fn stuck(live: &Live<'_, '_>, json: &mut Json, process: usize)
+    ensures { Writes json.old json.new (stuck live.now.state process) }
 {
-    if let Some((name, line)) = pml_stuck(picture.live(), process) {
+    if let Some((name, line)) = pml_stuck(live, process) {
         stuck_place(json, process, name, line);
     }
 }
 
-fn each_stuck(picture: &Picture<'_, '_, '_>, json: &mut Json)
-    ensures { Writes json.old json.new (flat_map (stuck picture.now) (range_with_len 0 (length picture.now.stands))) }
+fn each_stuck(live: &Live<'_, '_>, json: &mut Json)
+    ensures { Writes json.old json.new (flat_map (stuck live.now.state) (range_with_len 0 (length live.now.state.stands))) }
 {
-    for process in 0..picture.process_count() {
-        stuck(picture, json, process);
+    for process in 0..live.process_count() {
+        stuck(live, json, process);
     }
 }
 
-fn all_stuck(picture: &Picture<'_, '_, '_>, json: &mut Json)
-    ensures { Writes json.old json.new (all_stuck picture.now) }
+fn all_stuck(live: &Live<'_, '_>, json: &mut Json)
+    ensures { Writes json.old json.new (all_stuck live.now.state) }
 {
     json.key("at");
     json.begin_array();
-    each_stuck(picture, json);
+    each_stuck(live, json);
     json.end_array();
 }
 
-fn stuck_where(picture: &Picture<'_, '_, '_>, json: &mut Json, is_own: bool)
-    ensures { Writes json.old json.new (stuck_where picture.now is_own) }
+fn stuck_where(live: &Live<'_, '_>, json: &mut Json, is_own: bool)
+    ensures { Writes json.old json.new (stuck_where live.now.state is_own) }
 {
     if is_own {
-        all_stuck(picture, json);
+        all_stuck(live, json);
     }
 }
 
-fn open_moves(picture: &Picture<'_, '_, '_>, json: &mut Json, moves: &[Move])
-    ensures { Writes json.old json.new (open_moves picture.now moves.now) }
+fn open_moves(live: &Live<'_, '_>, json: &mut Json, moves: &[Move])
+    ensures { Writes json.old json.new (open_moves live.now.state moves.now) }
 {
     if !moves.is_empty() {
-        texts(picture, json, moves);
+        texts(live, json, moves);
     }
 }
 
@@ -313,20 +307,20 @@ fn is_own(end: &str) -> bool
 
 /// Writes the last line. At an end of a run that is not valid it tells what led there, where that is known.
 pub fn add_end(
-    picture: &Picture<'_, '_, '_>,
+    live: &Live<'_, '_>,
     steps: usize,
     end: &str,
     moves: &[Move],
     past: Option<Past<'_>>,
     out: &mut Writer,
 )
-    ensures { AddsEnd picture.now steps end.now moves.now out.old out.new }
+    ensures { AddsEnd live.now.state steps end.now moves.now out.old out.new }
 {
     let mut json = ended(out.allocator(), steps, end);
-    stuck_where(picture, &mut json, is_own(end));
-    open_moves(picture, &mut json, moves);
-    told_choices(picture, &mut json, 0, moves);
+    stuck_where(live, &mut json, is_own(end));
+    open_moves(live, &mut json, moves);
+    told_choices(live, &mut json, 0, moves);
     json.finish(out);
-    add_past(picture, past, out);
+    add_past(live, past, out);
     out.add(b"}\n");
 }

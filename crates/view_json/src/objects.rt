@@ -8,10 +8,10 @@ ghost use Rattle.view_json.specs.Objects.{count, text, member, detail, object, v
 
 use pml_program::form::Form;
 use promela_process::place::Place;
+use run_state::live::Live;
 use view_cells::cells::{
     add_path, cell_count, form_at, is_chan, mtype_name, number_at, variable_count,
 };
-use view_cells::picture::Picture;
 use view_text::writer::Writer;
 use view_tokens::tokens::Json;
 
@@ -73,24 +73,24 @@ fn chan(json: &mut Json, n: usize)
 }
 
 /// Writes a number as its type has it: an mtype by its name, a channel as an object.
-pub fn value(picture: &Picture<'_, '_, '_>, json: &mut Json, form: Form, n: i32)
-    ensures { Writes json.old json.new (value picture.now.program form n) }
+pub fn value(live: &Live<'_, '_>, json: &mut Json, form: Form, n: i32)
+    ensures { Writes json.old json.new (value live.now.state.program form n) }
 {
     if n > 0 && is_chan(form) {
         return chan(json, n as usize);
     }
-    match mtype_name(picture, form, n) {
+    match mtype_name(live, form, n) {
         Some(name) => json.text(name),
         None => json.signed(n),
     }
 }
 
 // Writes the path of a cell as a key, in memory for it.
-fn path(picture: &Picture<'_, '_, '_>, json: &mut Json, place: Place, memory: &mut Writer)
-    ensures { Writes json.old json.new (key (string_of (path_of picture.now place)) ∷ []) }
+fn path(live: &Live<'_, '_>, json: &mut Json, place: Place, memory: &mut Writer)
+    ensures { Writes json.old json.new (key (string_of (path_of live.now.state place)) ∷ []) }
 {
     memory.clear();
-    add_path(picture, place, memory);
+    add_path(live, place, memory);
     json.text_key(memory.bytes());
     if memory.is_refused() {
         json.refuse();
@@ -98,58 +98,58 @@ fn path(picture: &Picture<'_, '_, '_>, json: &mut Json, place: Place, memory: &m
 }
 
 // Writes the number of a cell.
-fn held(picture: &Picture<'_, '_, '_>, json: &mut Json, place: Place)
-    ensures { Writes json.old json.new (held picture.now place) }
+fn held(live: &Live<'_, '_>, json: &mut Json, place: Place)
+    ensures { Writes json.old json.new (held live.now.state place) }
 {
-    let form = form_at(picture, place);
-    let number = number_at(picture, place);
-    value(picture, json, form, number);
+    let form = form_at(live, place);
+    let number = number_at(live, place);
+    value(live, json, form, number);
 }
 
 // Writes a cell as a member of an object, its path in memory for it.
-fn cell_in(picture: &Picture<'_, '_, '_>, json: &mut Json, place: Place, memory: &mut Writer)
-    ensures { Writes json.old json.new (cell picture.now place) }
+fn cell_in(live: &Live<'_, '_>, json: &mut Json, place: Place, memory: &mut Writer)
+    ensures { Writes json.old json.new (cell live.now.state place) }
 {
-    path(picture, json, place, memory);
-    held(picture, json, place);
+    path(live, json, place, memory);
+    held(live, json, place);
 }
 
 /// Writes a cell as a member of an object.
-pub fn cell(picture: &Picture<'_, '_, '_>, json: &mut Json, place: Place)
-    ensures { Writes json.old json.new (cell picture.now place) }
+pub fn cell(live: &Live<'_, '_>, json: &mut Json, place: Place)
+    ensures { Writes json.old json.new (cell live.now.state place) }
 {
     let mut memory = Writer::new(json.allocator());
-    cell_in(picture, json, place, &mut memory);
+    cell_in(live, json, place, &mut memory);
 }
 
-fn cells_of(picture: &Picture<'_, '_, '_>, json: &mut Json, frame: usize, variable: usize)
-    ensures { Writes json.old json.new (variable_cells picture.now frame variable) }
+fn cells_of(live: &Live<'_, '_>, json: &mut Json, frame: usize, variable: usize)
+    ensures { Writes json.old json.new (variable_cells live.now.state frame variable) }
 {
     let mut memory = Writer::new(json.allocator());
-    for at in 0..cell_count(picture, frame, variable) {
+    for at in 0..cell_count(live, frame, variable) {
         let place = Place {
             frame,
             variable,
             cell: at,
         };
-        cell_in(picture, json, place, &mut memory);
+        cell_in(live, json, place, &mut memory);
     }
 }
 
 // Writes the cells of each variable of a frame.
-fn members(picture: &Picture<'_, '_, '_>, json: &mut Json, frame: usize)
-    ensures { Writes json.old json.new (frame_cells picture.now frame) }
+fn members(live: &Live<'_, '_>, json: &mut Json, frame: usize)
+    ensures { Writes json.old json.new (frame_cells live.now.state frame) }
 {
-    for variable in 0..variable_count(picture, frame) {
-        cells_of(picture, json, frame, variable);
+    for variable in 0..variable_count(live, frame) {
+        cells_of(live, json, frame, variable);
     }
 }
 
 /// Writes all cells of a frame, as an object.
-pub fn all_cells(picture: &Picture<'_, '_, '_>, json: &mut Json, frame: usize)
-    ensures { Writes json.old json.new (cells picture.now frame) }
+pub fn all_cells(live: &Live<'_, '_>, json: &mut Json, frame: usize)
+    ensures { Writes json.old json.new (cells live.now.state frame) }
 {
     json.begin_object();
-    members(picture, json, frame);
+    members(live, json, frame);
     json.end_object();
 }

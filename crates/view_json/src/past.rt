@@ -6,9 +6,9 @@ ghost use Rattle.view_json.specs.Added.{AddsPast};
 use crate::channel::channel_heading;
 use crate::objects::{number, value, written};
 use promela_process::place::Place;
+use run_state::live::Live;
 use std::alloc::{AllocError, Global};
 use view_cells::cells::form_at;
-use view_cells::picture::Picture;
 use view_past::channels::add_channels;
 use view_past::round::{awaited, is_in_round, next_of};
 use view_past::target::channel_of;
@@ -61,15 +61,15 @@ fn last_use(json: &mut Json, name: &str, used: Option<ChannelUse>)
 }
 
 // Writes who used a channel last, at which a process waits.
-fn used(picture: &Picture<'_, '_, '_>, json: &mut Json, wait: Wait, n: usize, uses: &Uses)
+fn used(live: &Live<'_, '_>, json: &mut Json, wait: Wait, n: usize, uses: &Uses)
     ensures { Stays json.old json.new }
 {
     let mut line = Writer::new(json.allocator());
     let mut known = Vec::new(json.allocator());
-    let answer = add_channels(picture, &[wait], uses, &mut known, &mut line);
+    let answer = add_channels(live, &[wait], uses, &mut known, &mut line);
     line.keep(answer);
     json.begin_object();
-    channel_heading(picture, json, n);
+    channel_heading(live, json, n);
     let last = uses.of(n);
     last_use(json, "sent", last.sent);
     last_use(json, "took", last.took);
@@ -79,7 +79,7 @@ fn used(picture: &Picture<'_, '_, '_>, json: &mut Json, wait: Wait, n: usize, us
 
 // Writes the channels that these waits are at, unless they are known.
 fn channels(
-    picture: &Picture<'_, '_, '_>,
+    live: &Live<'_, '_>,
     json: &mut Json,
     waits: &[Wait],
     uses: &Uses,
@@ -88,10 +88,10 @@ fn channels(
     ensures { Stays json.old json.new }
 {
     for wait in waits {
-        if let Some(n) = channel_of(picture, wait) {
+        if let Some(n) = channel_of(live, wait) {
             if !known.iter().any(|one| *one == n) {
                 known.push(n)?;
-                used(picture, json, *wait, n, uses);
+                used(live, json, *wait, n, uses);
             }
         }
     }
@@ -99,55 +99,47 @@ fn channels(
 }
 
 // What a process waits for in a state without moves.
-fn waits_of(
-    picture: &Picture<'_, '_, '_>,
-    alloc: Global,
-    process: usize,
-) -> Result<Vec<Wait>, AllocError> {
+fn waits_of(live: &Live<'_, '_>, alloc: Global, process: usize) -> Result<Vec<Wait>, AllocError> {
     let mut waits = Vec::new(alloc);
-    add_waits(picture, &[], process, &mut waits)?;
+    add_waits(live, &[], process, &mut waits)?;
     Ok(waits)
 }
 
-fn all_channels(
-    picture: &Picture<'_, '_, '_>,
-    json: &mut Json,
-    uses: &Uses,
-) -> Result<(), AllocError>
+fn all_channels(live: &Live<'_, '_>, json: &mut Json, uses: &Uses) -> Result<(), AllocError>
     ensures { Stays json.old json.new }
 {
     let mut known = Vec::new(json.allocator());
-    for process in 0..picture.process_count() {
-        let waits = waits_of(picture, json.allocator(), process)?;
-        channels(picture, json, waits.as_slice(), uses, &mut known)?;
+    for process in 0..live.process_count() {
+        let waits = waits_of(live, json.allocator(), process)?;
+        channels(live, json, waits.as_slice(), uses, &mut known)?;
     }
     Ok(())
 }
 
 // Writes a step that set a variable.
-fn setter(picture: &Picture<'_, '_, '_>, json: &mut Json, place: Place, writing: Writing)
+fn setter(live: &Live<'_, '_>, json: &mut Json, place: Place, writing: Writing)
     ensures { Stays json.old json.new }
 {
     number(json, "proc", writing.process);
     json.key("value");
-    value(picture, json, form_at(picture, place), writing.number);
+    value(live, json, form_at(live, place), writing.number);
     number(json, "step", writing.step);
     lives(json, writing.lives);
 }
 
 // Writes who set a variable last.
-fn set(picture: &Picture<'_, '_, '_>, json: &mut Json, place: Place, writings: &Writings)
+fn set(live: &Live<'_, '_>, json: &mut Json, place: Place, writings: &Writings)
     ensures { Stays json.old json.new }
 {
     let mut name = Writer::new(json.allocator());
-    add_cell_name(picture, place, &mut name);
+    add_cell_name(live, place, &mut name);
     let mut line = Writer::new(json.allocator());
     let last = writings.of(place);
-    add_writing(picture, place, last, &mut line);
+    add_writing(live, place, last, &mut line);
     json.begin_object();
     written(json, "name", &name);
     if let Some(writing) = last {
-        setter(picture, json, place, writing);
+        setter(live, json, place, writing);
     }
     words(json, &line);
     json.end_object();
@@ -155,7 +147,7 @@ fn set(picture: &Picture<'_, '_, '_>, json: &mut Json, place: Place, writings: &
 
 // Writes the variables that the condition of a wait reads, unless they are known.
 fn cells(
-    picture: &Picture<'_, '_, '_>,
+    live: &Live<'_, '_>,
     json: &mut Json,
     wait: &Wait,
     writings: &Writings,
@@ -163,12 +155,12 @@ fn cells(
 ) -> Result<(), AllocError>
     ensures { Stays json.old json.new }
 {
-    let reads = reads_of(json.allocator(), picture, wait)?;
+    let reads = reads_of(json.allocator(), live, wait)?;
     for read in reads.items() {
         if let ReadValue::Cell(place) = *read {
             if !known.iter().any(|one| *one == place) {
                 known.push(place)?;
-                set(picture, json, place, writings);
+                set(live, json, place, writings);
             }
         }
     }
@@ -176,7 +168,7 @@ fn cells(
 }
 
 fn all_cells(
-    picture: &Picture<'_, '_, '_>,
+    live: &Live<'_, '_>,
     json: &mut Json,
     waits: &[Wait],
     writings: &Writings,
@@ -185,40 +177,36 @@ fn all_cells(
     ensures { Stays json.old json.new }
 {
     for wait in waits {
-        cells(picture, json, wait, writings, known)?;
+        cells(live, json, wait, writings, known)?;
     }
     Ok(())
 }
 
-fn each_cell(
-    picture: &Picture<'_, '_, '_>,
-    json: &mut Json,
-    writings: &Writings,
-) -> Result<(), AllocError>
+fn each_cell(live: &Live<'_, '_>, json: &mut Json, writings: &Writings) -> Result<(), AllocError>
     ensures { Stays json.old json.new }
 {
     let mut known = Vec::new(json.allocator());
-    for process in 0..picture.process_count() {
-        let waits = waits_of(picture, json.allocator(), process)?;
-        all_cells(picture, json, waits.as_slice(), writings, &mut known)?;
+    for process in 0..live.process_count() {
+        let waits = waits_of(live, json.allocator(), process)?;
+        all_cells(live, json, waits.as_slice(), writings, &mut known)?;
     }
     Ok(())
 }
 
 // Whom a process waits for, where it waits for one thing alone.
 fn awaited_by(
-    picture: &Picture<'_, '_, '_>,
+    live: &Live<'_, '_>,
     alloc: Global,
     process: usize,
     past: Past<'_>,
 ) -> Result<Option<usize>, AllocError> {
-    let waits = waits_of(picture, alloc, process)?;
+    let waits = waits_of(live, alloc, process)?;
     let [wait] = waits.as_slice() else {
         return Ok(None);
     };
-    match awaited(picture, process, wait, past.uses) {
+    match awaited(live, process, wait, past.uses) {
         Some(other) => Ok(Some(other)),
-        None => awaited_writer(alloc, picture, process, wait, past.writings),
+        None => awaited_writer(alloc, live, process, wait, past.writings),
     }
 }
 
@@ -255,53 +243,49 @@ fn round(json: &mut Json, awaits: &[Option<usize>])
 }
 
 // Writes the round of processes that wait for one another.
-fn add_round(
-    picture: &Picture<'_, '_, '_>,
-    json: &mut Json,
-    past: Past<'_>,
-) -> Result<(), AllocError>
+fn add_round(live: &Live<'_, '_>, json: &mut Json, past: Past<'_>) -> Result<(), AllocError>
     ensures { Stays json.old json.new }
 {
     let mut awaits = Vec::new(json.allocator());
-    for process in 0..picture.process_count() {
-        awaits.push(awaited_by(picture, json.allocator(), process, past)?)?;
+    for process in 0..live.process_count() {
+        awaits.push(awaited_by(live, json.allocator(), process, past)?)?;
     }
     round(json, awaits.as_slice());
     Ok(())
 }
 
 // Writes what led here, as an object.
-fn members(picture: &Picture<'_, '_, '_>, json: &mut Json, past: Past<'_>) -> Result<(), AllocError>
+fn members(live: &Live<'_, '_>, json: &mut Json, past: Past<'_>) -> Result<(), AllocError>
     ensures { Stays json.old json.new }
 {
     json.begin_object();
     json.key("used");
     json.begin_array();
-    all_channels(picture, json, past.uses)?;
+    all_channels(live, json, past.uses)?;
     json.end_array();
     json.key("set");
     json.begin_array();
-    each_cell(picture, json, past.writings)?;
+    each_cell(live, json, past.writings)?;
     json.end_array();
-    add_round(picture, json, past)?;
+    add_round(live, json, past)?;
     json.end_object();
     Ok(())
 }
 
-fn json_of(picture: &Picture<'_, '_, '_>, alloc: Global, past: Past<'_>) -> Json {
+fn json_of(live: &Live<'_, '_>, alloc: Global, past: Past<'_>) -> Json {
     let mut json = Json::new(alloc);
-    if members(picture, &mut json, past).is_err() {
+    if members(live, &mut json, past).is_err() {
         json.refuse();
     }
     json
 }
 
 /// Writes what led to the state that is seen, as a member behind others, where it is known.
-pub fn add_past(picture: &Picture<'_, '_, '_>, past: Option<Past<'_>>, out: &mut Writer)
+pub fn add_past(live: &Live<'_, '_>, past: Option<Past<'_>>, out: &mut Writer)
     ensures { AddsPast out.old out.new }
 {
     if let Some(past) = past {
         out.add(b",\"past\":");
-        json_of(picture, out.allocator(), past).finish(out);
+        json_of(live, out.allocator(), past).finish(out);
     }
 }

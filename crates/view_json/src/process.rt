@@ -11,7 +11,7 @@ ghost use Rattle.view_json.specs.Objects.{text, member, named, offer, waits_at, 
 use crate::counted::Counted;
 use crate::objects::{number, written};
 use promela_run::moves::Pick;
-use view_cells::picture::Picture;
+use run_state::live::Live;
 use view_cells::processes::{add_name, line_of};
 use view_text::writer::Writer;
 use view_tokens::tokens::Json;
@@ -20,55 +20,55 @@ use view_waits::waits::Wait;
 use view_waits::words::add_words;
 
 // Writes the name of a process's proctype.
-fn name(picture: &Picture<'_, '_, '_>, json: &mut Json, process: usize)
-    ensures { Writes json.old json.new (member (codes "name") (text (name_of picture.now process))) }
+fn name(live: &Live<'_, '_>, json: &mut Json, process: usize)
+    ensures { Writes json.old json.new (member (codes "name") (text (name_of live.now.state process))) }
 {
     let mut name = Writer::new(json.allocator());
-    add_name(picture, process, &mut name);
+    add_name(live, process, &mut name);
     written(json, "name", &name);
 }
 
 /// Writes the members of a process that name it.
-pub fn named(picture: &Picture<'_, '_, '_>, json: &mut Json, process: usize)
-    ensures { Writes json.old json.new (named picture.now process) }
+pub fn named(live: &Live<'_, '_>, json: &mut Json, process: usize)
+    ensures { Writes json.old json.new (named live.now.state process) }
 {
     number(json, "proc", process);
-    name(picture, json, process);
+    name(live, json, process);
 }
 
 // Writes the text of an offer.
-fn offer_text(picture: &Picture<'_, '_, '_>, json: &mut Json, pick: Pick)
-    ensures { Writes json.old json.new (member (codes "text") (text (offered_text picture.now pick))) }
+fn offer_text(live: &Live<'_, '_>, json: &mut Json, pick: Pick)
+    ensures { Writes json.old json.new (member (codes "text") (text (offered_text live.now.state pick))) }
 {
     let mut text = Writer::new(json.allocator());
-    add_offer(picture, pick, &mut text);
+    add_offer(live, pick, &mut text);
     written(json, "text", &text);
 }
 
 // Writes the members of an offer.
-fn offer(picture: &Picture<'_, '_, '_>, json: &mut Json, pick: Pick)
-    ensures { Writes json.old json.new (offer picture.now pick) }
+fn offer(live: &Live<'_, '_>, json: &mut Json, pick: Pick)
+    ensures { Writes json.old json.new (offer live.now.state pick) }
 {
-    number(json, "line", offer_line(picture, pick) as usize);
-    offer_text(picture, json, pick);
+    number(json, "line", offer_line(live, pick) as usize);
+    offer_text(live, json, pick);
 }
 
 /// Writes the members of a process and of its offer.
-pub fn picked(picture: &Picture<'_, '_, '_>, json: &mut Json, pick: Pick)
-    ensures { Writes json.old json.new (named picture.now pick.process ++ offer picture.now pick) }
+pub fn picked(live: &Live<'_, '_>, json: &mut Json, pick: Pick)
+    ensures { Writes json.old json.new (named live.now.state pick.process ++ offer live.now.state pick) }
 {
-    named(picture, json, pick.process);
-    offer(picture, json, pick);
+    named(live, json, pick.process);
+    offer(live, json, pick);
 }
 
 // Writes where a process waits: at an offer, or where it stands.
-fn waits_at(picture: &Picture<'_, '_, '_>, json: &mut Json, process: usize, pick: Option<Pick>)
-    ensures { Writes json.old json.new (waits_at picture.now process pick) }
+fn waits_at(live: &Live<'_, '_>, json: &mut Json, process: usize, pick: Option<Pick>)
+    ensures { Writes json.old json.new (waits_at live.now.state process pick) }
 {
     match pick {
-        Some(pick) => offer(picture, json, pick),
+        Some(pick) => offer(live, json, pick),
         None => {
-            number(json, "line", line_of(picture, process) as usize);
+            number(json, "line", line_of(live, process) as usize);
             json.key("text");
             json.null();
         }
@@ -84,54 +84,54 @@ fn because(json: &mut Json, one: &Wait, words: &Writer)
     written(json, "words", words);
 }
 
-fn wait(picture: &Picture<'_, '_, '_>, json: &mut Json, process: usize, one: &Wait)
-    ensures { (words : List ℕ) × Writes json.old json.new (wait picture.now process one.now words) }
+fn wait(live: &Live<'_, '_>, json: &mut Json, process: usize, one: &Wait)
+    ensures { (words : List ℕ) × Writes json.old json.new (wait live.now.state process one.now words) }
 {
     let mut words = Writer::new(json.allocator());
-    add_words(picture, one, &mut words);
+    add_words(live, one, &mut words);
     json.begin_object();
-    waits_at(picture, json, process, one.pick);
+    waits_at(live, json, process, one.pick);
     because(json, one, &words);
     json.end_object();
 }
 
 // Writes each of these, one behind another.
-fn waits(picture: &Picture<'_, '_, '_>, json: &mut Json, process: usize, waits: &[Wait])
-    ensures { AddsWaits picture.now process waits.now json.old json.new }
+fn waits(live: &Live<'_, '_>, json: &mut Json, process: usize, waits: &[Wait])
+    ensures { AddsWaits live.now.state process waits.now json.old json.new }
 {
     for one in waits {
-        wait(picture, json, process, one);
+        wait(live, json, process, one);
     }
 }
 
 // Writes what a process waits for.
-fn all_of(picture: &Picture<'_, '_, '_>, json: &mut Json, moves: &Counted<'_>, process: usize)
-    ensures { moves.now ≡ all_moves picture.now → AddsWaits picture.now process (all_waits picture.now process) json.old json.new }
+fn all_of(live: &Live<'_, '_>, json: &mut Json, moves: &Counted<'_>, process: usize)
+    ensures { moves.now ≡ all_moves live.now.state → AddsWaits live.now.state process (all_waits live.now.state process) json.old json.new }
 {
     let mut found = Vec::new(json.allocator());
-    match moves.add_waits(picture, process, &mut found) {
-        Ok(()) => waits(picture, json, process, found.as_slice()),
+    match moves.add_waits(live, process, &mut found) {
+        Ok(()) => waits(live, json, process, found.as_slice()),
         Err(_) => json.refuse(),
     }
 }
 
 // Writes where a process stands, and in how many moves it takes part.
-fn place_of(picture: &Picture<'_, '_, '_>, json: &mut Json, moves: &Counted<'_>, process: usize)
-    ensures { Writes json.old json.new (heading picture.now moves.now process) }
+fn place_of(live: &Live<'_, '_>, json: &mut Json, moves: &Counted<'_>, process: usize)
+    ensures { Writes json.old json.new (heading live.now.state moves.now process) }
 {
-    named(picture, json, process);
-    number(json, "line", line_of(picture, process) as usize);
+    named(live, json, process);
+    number(json, "line", line_of(live, process) as usize);
     number(json, "moves", moves.of(process));
 }
 
 /// Writes the members of a process but for its variables.
-pub fn standing(picture: &Picture<'_, '_, '_>, json: &mut Json, moves: &Counted<'_>, process: usize)
-    ensures { moves.now ≡ all_moves picture.now → AddsStanding picture.now moves.now process json.old json.new }
+pub fn standing(live: &Live<'_, '_>, json: &mut Json, moves: &Counted<'_>, process: usize)
+    ensures { moves.now ≡ all_moves live.now.state → AddsStanding live.now.state moves.now process json.old json.new }
 {
     json.begin_object();
-    place_of(picture, json, moves, process);
+    place_of(live, json, moves, process);
     json.key("waits");
     json.begin_array();
-    all_of(picture, json, moves, process);
+    all_of(live, json, moves, process);
     json.end_array();
 }

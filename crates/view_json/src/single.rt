@@ -11,8 +11,8 @@ use crate::deal::{does_same, effect_of, no_transfer};
 use crate::known::{Known, Seen, deals_at, is_alike, know};
 use crate::lines::transfer;
 use promela_run::moves::{Move, Pick};
+use run_state::live::Live;
 use std::alloc::Global;
-use view_cells::picture::Picture;
 use view_tokens::tokens::Json;
 use view_waits::transfer::{Transfer, transfer_of};
 
@@ -42,44 +42,37 @@ impl Single {
 }
 
 // Whether a move that is seen as this was has the same object. It has the same text, and so it sends or receives where that did.
-fn is_same(picture: &Picture<'_, '_, '_>, pick: Pick, is_late: bool, last: &Single) -> bool
+fn is_same(live: &Live<'_, '_>, pick: Pick, is_late: bool, last: &Single) -> bool
     ensures { result ≡ true → last.now.whole.refused ≡ false }
 {
-    !last.whole.is_refused()
-        && does_same(picture, Move::Alone(pick, is_late), last.deals, &last.done)
+    !last.whole.is_refused() && does_same(live, Move::Alone(pick, is_late), last.deals, &last.done)
 }
 
 // Writes a move that does this with a message.
-fn write(picture: &Picture<'_, '_, '_>, json: &mut Json, first: &Known, done: &Transfer)
-    requires { Knows picture.now first.now }
-    ensures { (is_late : Bool) → AddsChoice picture.now (Alone first.now.pick is_late) json.old json.new }
+fn write(live: &Live<'_, '_>, json: &mut Json, first: &Known, done: &Transfer)
+    requires { Knows live.now.state first.now }
+    ensures { (is_late : Bool) → AddsChoice live.now.state (Alone first.now.pick is_late) json.old json.new }
 {
     json.begin_object();
     json.join(&first.written);
-    transfer(picture, json, done);
-    effect_of(picture, json, done);
+    transfer(live, json, done);
+    effect_of(live, json, done);
     json.end_object();
 }
 
 // Writes a move anew.
-fn renew(
-    picture: &Picture<'_, '_, '_>,
-    pick: Pick,
-    is_late: bool,
-    seen: Seen<'_>,
-    last: &mut Single,
-)
-    requires tells { Tells picture.now last.old }
-    requires seen { IsSeen picture.now pick seen }
-    ensures tells { Tells picture.now last.new }
+fn renew(live: &Live<'_, '_>, pick: Pick, is_late: bool, seen: Seen<'_>, last: &mut Single)
+    requires tells { Tells live.now.state last.old }
+    requires seen { IsSeen live.now.state pick seen }
+    ensures tells { Tells live.now.state last.new }
     ensures pick { last.new.first.pick ≡ pick }
 {
-    know(picture, pick, seen, &mut last.first);
+    know(live, pick, seen, &mut last.first);
     last.whole.clear();
-    match transfer_of(last.whole.allocator(), picture, &Move::Alone(pick, is_late)) {
+    match transfer_of(last.whole.allocator(), live, &Move::Alone(pick, is_late)) {
         Ok(done) => {
-            write(picture, &mut last.whole, &last.first, &done);
-            last.deals = deals_at(picture.live(), pick);
+            write(live, &mut last.whole, &last.first, &done);
+            last.deals = deals_at(live, pick);
             last.done = done;
         }
         Err(_) => last.whole.refuse(),
@@ -87,80 +80,74 @@ fn renew(
 }
 
 // Writes a move that is seen as this was, where it is not the same as before.
-fn settle(
-    picture: &Picture<'_, '_, '_>,
-    pick: Pick,
-    is_late: bool,
-    seen: Seen<'_>,
-    last: &mut Single,
-)
-    requires tells { Tells picture.now last.old }
-    requires seen { IsSeen picture.now pick seen }
+fn settle(live: &Live<'_, '_>, pick: Pick, is_late: bool, seen: Seen<'_>, last: &mut Single)
+    requires tells { Tells live.now.state last.old }
+    requires seen { IsSeen live.now.state pick seen }
     requires alike { alike last.old.first pick.process seen ≡ true }
-    ensures tells { Tells picture.now last.new }
+    ensures tells { Tells live.now.state last.new }
     ensures pick { last.new.first.pick ≡ pick }
 {
-    if is_same(picture, pick, is_late, last) {
+    if is_same(live, pick, is_late, last) {
         last.first.pick = pick;
         return;
     }
-    renew(picture, pick, is_late, seen, last);
+    renew(live, pick, is_late, seen, last);
 }
 
 /// Writes a move again, where this was written before of one that is seen so.
 pub(crate) fn add_again(
-    picture: &Picture<'_, '_, '_>,
+    live: &Live<'_, '_>,
     json: &mut Json,
     pick: Pick,
     is_late: bool,
     seen: Seen<'_>,
     last: &mut Single,
 )
-    requires tells { Tells picture.now last.old }
-    requires seen { IsSeen picture.now pick seen }
+    requires tells { Tells live.now.state last.old }
+    requires seen { IsSeen live.now.state pick seen }
     requires alike { alike last.old.first pick.process seen ≡ true }
-    ensures choice { AddsChoice picture.now (Alone pick is_late) json.old json.new }
-    ensures tells { Tells picture.now last.new }
+    ensures choice { AddsChoice live.now.state (Alone pick is_late) json.old json.new }
+    ensures tells { Tells live.now.state last.new }
 {
-    settle(picture, pick, is_late, seen, last);
+    settle(live, pick, is_late, seen, last);
     json.join(&last.whole);
 }
 
 // Writes a move that is not known.
 fn add_anew(
-    picture: &Picture<'_, '_, '_>,
+    live: &Live<'_, '_>,
     json: &mut Json,
     pick: Pick,
     is_late: bool,
     seen: Seen<'_>,
     last: &mut Single,
 )
-    requires tells { Tells picture.now last.old }
-    requires seen { IsSeen picture.now pick seen }
-    ensures choice { AddsChoice picture.now (Alone pick is_late) json.old json.new }
-    ensures tells { Tells picture.now last.new }
+    requires tells { Tells live.now.state last.old }
+    requires seen { IsSeen live.now.state pick seen }
+    ensures choice { AddsChoice live.now.state (Alone pick is_late) json.old json.new }
+    ensures tells { Tells live.now.state last.new }
 {
-    renew(picture, pick, is_late, seen, last);
+    renew(live, pick, is_late, seen, last);
     json.join(&last.whole);
 }
 
 /// Writes a move, where this was written before.
 pub(crate) fn add_single(
-    picture: &Picture<'_, '_, '_>,
+    live: &Live<'_, '_>,
     json: &mut Json,
     pick: Pick,
     is_late: bool,
     seen: Seen<'_>,
     last: &mut Single,
 )
-    requires tells { Tells picture.now last.old }
-    requires seen { IsSeen picture.now pick seen }
-    ensures choice { AddsChoice picture.now (Alone pick is_late) json.old json.new }
-    ensures tells { Tells picture.now last.new }
+    requires tells { Tells live.now.state last.old }
+    requires seen { IsSeen live.now.state pick seen }
+    ensures choice { AddsChoice live.now.state (Alone pick is_late) json.old json.new }
+    ensures tells { Tells live.now.state last.new }
 {
     if is_alike(&last.first, pick.process, seen) {
-        add_again(picture, json, pick, is_late, seen, last);
+        add_again(live, json, pick, is_late, seen, last);
     } else {
-        add_anew(picture, json, pick, is_late, seen, last);
+        add_anew(live, json, pick, is_late, seen, last);
     }
 }

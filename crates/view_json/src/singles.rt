@@ -12,8 +12,8 @@ ghost use Rattle.view_json.specs.Places.{passes_at, most, place_behind};
 use crate::known::{Seen, is_alike, seen_at};
 use crate::single::{Single, add_again, add_single};
 use promela_run::moves::Pick;
+use run_state::live::Live;
 use std::alloc::Global;
-use view_cells::picture::Picture;
 use view_tokens::tokens::Json;
 
 /// So many are kept of many, and of few just the last.
@@ -105,21 +105,21 @@ fn place_for(pick: Pick, seen: Seen<'_>, last: &mut Singles) -> usize
 
 // Writes a move at the place of the last.
 fn add_at(
-    picture: &Picture<'_, '_, '_>,
+    live: &Live<'_, '_>,
     json: &mut Json,
     pick: Pick,
     is_late: bool,
     seen: Seen<'_>,
     last: &mut Singles,
 )
-    requires tell { All (Tells picture.now) last.old.all.items }
-    requires seen { IsSeen picture.now pick seen }
-    ensures choice { AddsChoice picture.now (Alone pick is_late) json.old json.new }
-    ensures tell { All (Tells picture.now) last.new.all.items }
+    requires tell { All (Tells live.now.state) last.old.all.items }
+    requires seen { IsSeen live.now.state pick seen }
+    ensures choice { AddsChoice live.now.state (Alone pick is_late) json.old json.new }
+    ensures tell { All (Tells live.now.state) last.new.all.items }
 {
     let at = last.at;
     if at < last.all.len() {
-        add_single(picture, json, pick, is_late, seen, &mut last.all[at]);
+        add_single(live, json, pick, is_late, seen, &mut last.all[at]);
     } else {
         json.refuse();
     }
@@ -127,24 +127,24 @@ fn add_at(
 
 /// Writes a move, where this was written before.
 pub(crate) fn add_alone(
-    picture: &Picture<'_, '_, '_>,
+    live: &Live<'_, '_>,
     json: &mut Json,
     pick: Pick,
     is_late: bool,
     last: &mut Singles,
 )
-    requires { All (Tells picture.now) last.old.all.items }
-    ensures choice { AddsChoice picture.now (Alone pick is_late) json.old json.new }
-    ensures tell { All (Tells picture.now) last.new.all.items }
+    requires { All (Tells live.now.state) last.old.all.items }
+    ensures choice { AddsChoice live.now.state (Alone pick is_late) json.old json.new }
+    ensures tell { All (Tells live.now.state) last.new.all.items }
 {
-    let seen = seen_at(picture, pick);
+    let seen = seen_at(live, pick);
     let at = last.at;
     if at < last.all.len() {
         if is_alike(&last.all[at].first, pick.process, seen) {
-            return add_again(picture, json, pick, is_late, seen, &mut last.all[at]);
+            return add_again(live, json, pick, is_late, seen, &mut last.all[at]);
         }
     }
     let at = place_for(pick, seen, last);
     last.at = at;
-    add_at(picture, json, pick, is_late, seen, last);
+    add_at(live, json, pick, is_late, seen, last);
 }

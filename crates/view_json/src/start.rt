@@ -16,13 +16,13 @@ use crate::objects::{all_cells, number, written};
 use crate::steps::add_objects;
 use pml_program::program::Proctype;
 use promela_run::moves::Move;
+use run_state::live::Live;
 use std::alloc::{AllocError, Global};
-use view_cells::picture::Picture;
 use view_text::writer::Writer;
 use view_tokens::tokens::Json;
 
 // Writes the name of a proctype.
-fn proctype_name(json: &mut Json, proctype: &Proctype<'_>)
+fn proctype_name(proctype: &Proctype<'_>, json: &mut Json)
     ensures { Writes json.old json.new (named proctype.now) }
 {
     let mut name = Writer::new(json.allocator());
@@ -33,64 +33,64 @@ fn proctype_name(json: &mut Json, proctype: &Proctype<'_>)
 }
 
 // Writes a proctype: its name, and the line of its closing brace.
-fn proctype(json: &mut Json, one: &Proctype<'_>)
+fn proctype(one: &Proctype<'_>, json: &mut Json)
     ensures { Writes json.old json.new (proctype one.now) }
 {
     json.begin_object();
-    proctype_name(json, one);
+    proctype_name(one, json);
     number(json, "end", one.end.line() as usize);
     json.end_object();
 }
 
-fn each_proctype(json: &mut Json, proctypes: &[Proctype<'_>])
+fn each_proctype(proctypes: &[Proctype<'_>], json: &mut Json)
     ensures { Writes json.old json.new (flat_map proctype proctypes.now) }
 {
     for one in proctypes {
-        proctype(json, one);
+        proctype(one, json);
     }
 }
 
-fn proctypes(picture: &Picture<'_, '_, '_>, json: &mut Json)
-    ensures { Writes json.old json.new (proctypes picture.now.program) }
+fn proctypes(live: &Live<'_, '_>, json: &mut Json)
+    ensures { Writes json.old json.new (proctypes live.now.state.program) }
 {
     json.key("proctypes");
     json.begin_array();
-    each_proctype(json, picture.program().proctypes.as_slice());
+    each_proctype(live.program().proctypes.as_slice(), json);
     json.end_array();
 }
 
 // Writes the globals.
-fn globals(picture: &Picture<'_, '_, '_>, json: &mut Json)
-    ensures { Writes json.old json.new (member (codes "globals") (cells picture.now 0)) }
+fn globals(live: &Live<'_, '_>, json: &mut Json)
+    ensures { Writes json.old json.new (member (codes "globals") (cells live.now.state 0)) }
 {
     json.key("globals");
-    all_cells(picture, json, 0);
+    all_cells(live, json, 0);
 }
 
 // Writes what stands between the name of the event and the channels.
-fn heading(picture: &Picture<'_, '_, '_>, json: &mut Json, model: &str, is_lossy: bool)
-    ensures { Writes json.old json.new (heading picture.now model.now is_lossy) }
+fn heading(live: &Live<'_, '_>, json: &mut Json, model: &str, is_lossy: bool)
+    ensures { Writes json.old json.new (heading live.now.state model.now is_lossy) }
 {
     number(json, "format", 1);
     json.key("model");
     json.string(model);
     json.key("lossy");
     json.boolean(is_lossy);
-    proctypes(picture, json);
-    globals(picture, json);
+    proctypes(live, json);
+    globals(live, json);
 }
 
-fn start(picture: &Picture<'_, '_, '_>, alloc: Global, model: &str, is_lossy: bool) -> Json
-    ensures { result.refused ≡ false → result.tokens ≡ start picture.now model.now is_lossy }
+fn start(live: &Live<'_, '_>, alloc: Global, model: &str, is_lossy: bool) -> Json
+    ensures { result.refused ≡ false → result.tokens ≡ start live.now.state model.now is_lossy }
 {
     let mut json = begin(alloc, "start");
-    heading(picture, &mut json, model, is_lossy);
+    heading(live, &mut json, model, is_lossy);
     json
 }
 
 /// Writes the line of the first state.
 pub fn add_start(
-    picture: &Picture<'_, '_, '_>,
+    live: &Live<'_, '_>,
     model: &str,
     is_lossy: bool,
     moves: &[Move],
@@ -98,15 +98,15 @@ pub fn add_start(
     out: &mut Writer,
 ) -> Result<(), AllocError>
     ensures { OnOk result (AddsStart (telling out.old shown.old) (telling out.new shown.new)
-        picture.now moves.now model.now is_lossy) }
+        live.now.state moves.now model.now is_lossy) }
 {
-    start(picture, out.allocator(), model, is_lossy).finish(out);
+    start(live, out.allocator(), model, is_lossy).finish(out);
     let behind = Behind {
         moves,
         older: 0,
         changes: &[],
     };
-    add_objects(picture, behind, true, shown, out)?;
+    add_objects(live, behind, true, shown, out)?;
     out.add(b"}\n");
     Ok(())
 }

@@ -13,9 +13,9 @@ use crate::changed::{Behind, Shown, changed_cells, has_changes};
 use crate::list::Listing;
 use crate::objects::{number, text};
 use promela_run::moves::Move;
+use run_state::live::Live;
 use run_values::changed::Change;
 use std::alloc::AllocError;
-use view_cells::picture::Picture;
 use view_text::writer::Writer;
 use view_tokens::tokens::Json;
 
@@ -48,35 +48,35 @@ fn printed(json: &mut Json, bytes: &[u8])
 }
 
 // Writes the globals that a step changed.
-fn globals(picture: &Picture<'_, '_, '_>, json: &mut Json, changes: &[Change])
-    ensures { Writes json.old json.new (globals picture.now changes.now) }
+fn globals(live: &Live<'_, '_>, json: &mut Json, changes: &[Change])
+    ensures { Writes json.old json.new (globals live.now.state changes.now) }
 {
     if has_changes(0, changes) {
         json.key("globals");
-        changed_cells(picture, json, 0, changes);
+        changed_cells(live, json, 0, changes);
     }
 }
 
 // Writes what a step printed and what it changed of the globals.
-fn changed(picture: &Picture<'_, '_, '_>, json: &mut Json, bytes: &[u8], changes: &[Change])
-    ensures { Writes json.old json.new (changed picture.now bytes.now changes.now) }
+fn changed(live: &Live<'_, '_>, json: &mut Json, bytes: &[u8], changes: &[Change])
+    ensures { Writes json.old json.new (changed live.now.state bytes.now changes.now) }
 {
     printed(json, bytes);
-    globals(picture, json, changes);
+    globals(live, json, changes);
 }
 
 /// Writes the channels and the processes that are not as they were shown.
 pub fn add_objects(
-    picture: &Picture<'_, '_, '_>,
+    live: &Live<'_, '_>,
     behind: Behind<'_>,
     is_always: bool,
     shown: &mut Shown,
     out: &mut Writer,
 ) -> Result<(), AllocError>
-    ensures { OnOk result (AddsObjects is_always picture.now behind.entry (telling out.old shown.old) (telling out.new shown.new)) }
+    ensures { OnOk result (AddsObjects is_always live.now.state behind.entry (telling out.old shown.old) (telling out.new shown.new)) }
 {
-    shown.add_channels(picture, is_always, out)?;
-    shown.add_processes(picture, behind, is_always, out)?;
+    shown.add_channels(live, is_always, out)?;
+    shown.add_processes(live, behind, is_always, out)?;
     Ok(())
 }
 
@@ -117,13 +117,13 @@ fn noted(json: &mut Json, note: Note)
 }
 
 // Writes how many processes and channels there are, where the state stood before, and what a trail says beside the step.
-fn add_counts(picture: &Picture<'_, '_, '_>, step: Option<usize>, note: Note, out: &mut Writer)
-    ensures written { Adds out.old out.new (print_from true (counts picture.now step note)) }
-    ensures printable { out.new.refused ≡ false → ArePrintable (counts picture.now step note) }
+fn add_counts(live: &Live<'_, '_>, step: Option<usize>, note: Note, out: &mut Writer)
+    ensures written { Adds out.old out.new (print_from true (counts live.now.state step note)) }
+    ensures printable { out.new.refused ≡ false → ArePrintable (counts live.now.state step note) }
 {
     let mut json = Json::new(out.allocator());
-    number(&mut json, "alive", picture.process_count());
-    number(&mut json, "open", picture.channel_count());
+    number(&mut json, "alive", live.process_count());
+    number(&mut json, "open", live.channels().len());
     same(&mut json, step);
     noted(&mut json, note);
     out.add(b",");
@@ -131,17 +131,17 @@ fn add_counts(picture: &Picture<'_, '_, '_>, step: Option<usize>, note: Note, ou
 }
 
 // Writes what stands behind the objects of a step, and that its line ends.
-fn add_rest(picture: &Picture<'_, '_, '_>, done: Done<'_>, out: &mut Writer)
-    ensures { AddsRest picture.now done.entry out.old out.new }
+fn add_rest(live: &Live<'_, '_>, done: Done<'_>, out: &mut Writer)
+    ensures { AddsRest live.now.state done.entry out.old out.new }
 {
-    add_counts(picture, done.same_as, done.note, out);
+    add_counts(live, done.same_as, done.note, out);
     done.choices.end(b",\"choices\":[", false, out);
     out.add(b"}\n");
 }
 
 /// Writes the line of a step that was taken, from what is told of it before.
 pub fn add_step(
-    picture: &Picture<'_, '_, '_>,
+    live: &Live<'_, '_>,
     front: Json,
     done: Done<'_>,
     moves: &[Move],
@@ -149,17 +149,17 @@ pub fn add_step(
     out: &mut Writer,
 ) -> Result<(), AllocError>
     ensures { OnOk result (AddsStep (telling out.old shown.old) (telling out.new shown.new)
-        picture.now moves.now front.tokens done.entry) }
+        live.now.state moves.now front.tokens done.entry) }
 {
     let mut json = front;
-    changed(picture, &mut json, done.printed, done.changes);
+    changed(live, &mut json, done.printed, done.changes);
     json.finish(out);
     let behind = Behind {
         moves,
         older: done.older,
         changes: done.changes,
     };
-    add_objects(picture, behind, false, shown, out)?;
-    add_rest(picture, done, out);
+    add_objects(live, behind, false, shown, out)?;
+    add_rest(live, done, out);
     Ok(())
 }

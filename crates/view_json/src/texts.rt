@@ -17,7 +17,6 @@ use promela_run::moves::{Move, Pick};
 use run_state::live::Live;
 use run_texts::texts::add_move;
 use std::alloc::Global;
-use view_cells::picture::Picture;
 use view_text::writer::Writer;
 use view_tokens::tokens::Json;
 
@@ -137,67 +136,55 @@ fn keep(parts: Parts<'_>, line: &mut Line)
 }
 
 // Writes the text of a move, in the memory of a line that is begun anew.
-fn move_text(picture: &Picture<'_, '_, '_>, json: &mut Json, m: Move, line: &mut Writer)
-    ensures { Writes json.old json.new (text (move_text picture.now m)) }
+fn move_text(live: &Live<'_, '_>, json: &mut Json, m: Move, line: &mut Writer)
+    ensures { Writes json.old json.new (text (move_text live.now.state m)) }
 {
     line.clear();
     let mut bytes = line.take();
-    let answer = add_move(picture.live(), m, &mut bytes);
+    let answer = add_move(live, m, &mut bytes);
     line.put(bytes, answer);
     whole(json, line);
 }
 
 // Writes the text of a move anew.
-fn renew(
-    picture: &Picture<'_, '_, '_>,
-    m: Move,
-    parts: Parts<'_>,
-    last: &mut Line,
-    memory: &mut Writer,
-)
-    requires { TellsMove picture.now m parts }
-    ensures reads { Reads picture.now last.new }
-    ensures written { last.new.written.refused ≡ false → last.new.written.tokens ≡ text (move_text picture.now m) }
+fn renew(live: &Live<'_, '_>, m: Move, parts: Parts<'_>, last: &mut Line, memory: &mut Writer)
+    requires { TellsMove live.now.state m parts }
+    ensures reads { Reads live.now.state last.new }
+    ensures written { last.new.written.refused ≡ false → last.new.written.tokens ≡ text (move_text live.now.state m) }
 {
     last.written.clear();
-    move_text(picture, &mut last.written, m, memory);
+    move_text(live, &mut last.written, m, memory);
     keep(parts, last);
 }
 
 // Writes the text of a move that has these parts, where it is not the same as before.
-fn settle(
-    picture: &Picture<'_, '_, '_>,
-    m: Move,
-    parts: Parts<'_>,
-    last: &mut Line,
-    memory: &mut Writer,
-)
-    requires reads { Reads picture.now last.old }
-    requires tells { TellsMove picture.now m parts }
-    ensures reads { Reads picture.now last.new }
-    ensures written { last.new.written.refused ≡ false → last.new.written.tokens ≡ text (move_text picture.now m) }
+fn settle(live: &Live<'_, '_>, m: Move, parts: Parts<'_>, last: &mut Line, memory: &mut Writer)
+    requires reads { Reads live.now.state last.old }
+    requires tells { TellsMove live.now.state m parts }
+    ensures reads { Reads live.now.state last.new }
+    ensures written { last.new.written.refused ≡ false → last.new.written.tokens ≡ text (move_text live.now.state m) }
 {
     if are_same(last, &parts) {
         return;
     }
-    renew(picture, m, parts, last, memory);
+    renew(live, m, parts, last, memory);
 }
 
 // Writes the text of a move that has these parts, where this was written before.
 fn add_line(
-    picture: &Picture<'_, '_, '_>,
+    live: &Live<'_, '_>,
     json: &mut Json,
     m: Move,
     parts: Parts<'_>,
     last: &mut Line,
     memory: &mut Writer,
 )
-    requires reads { Reads picture.now last.old }
-    requires tells { TellsMove picture.now m parts }
-    ensures reads { Reads picture.now last.new }
-    ensures written { Writes json.old json.new (text (move_text picture.now m)) }
+    requires reads { Reads live.now.state last.old }
+    requires tells { TellsMove live.now.state m parts }
+    ensures reads { Reads live.now.state last.new }
+    ensures written { Writes json.old json.new (text (move_text live.now.state m)) }
 {
-    settle(picture, m, parts, last, memory);
+    settle(live, m, parts, last, memory);
     json.join(&last.written);
 }
 
@@ -273,38 +260,32 @@ fn place_for(parts: &Parts<'_>, last: &mut Lines) -> usize
 
 // Writes the text of a move that has these parts at a place.
 fn add_at(
-    picture: &Picture<'_, '_, '_>,
+    live: &Live<'_, '_>,
     json: &mut Json,
     m: Move,
     parts: Parts<'_>,
     at: usize,
     last: &mut Lines,
 )
-    requires read { All (Reads picture.now) last.old.all.items }
-    requires tells { TellsMove picture.now m parts }
-    ensures read { All (Reads picture.now) last.new.all.items }
-    ensures written { Writes json.old json.new (text (move_text picture.now m)) }
+    requires read { All (Reads live.now.state) last.old.all.items }
+    requires tells { TellsMove live.now.state m parts }
+    ensures read { All (Reads live.now.state) last.new.all.items }
+    ensures written { Writes json.old json.new (text (move_text live.now.state m)) }
 {
     last.at = at;
     if at < last.all.len() {
-        add_line(picture, json, m, parts, &mut last.all[at], &mut last.memory);
+        add_line(live, json, m, parts, &mut last.all[at], &mut last.memory);
     } else {
         json.refuse();
     }
 }
 
 // Writes the text of a move that has these parts, where this was written before: first the last of all is asked.
-fn add_parts(
-    picture: &Picture<'_, '_, '_>,
-    json: &mut Json,
-    m: Move,
-    parts: Parts<'_>,
-    last: &mut Lines,
-)
-    requires read { All (Reads picture.now) last.old.all.items }
-    requires tells { TellsMove picture.now m parts }
-    ensures read { All (Reads picture.now) last.new.all.items }
-    ensures written { Writes json.old json.new (text (move_text picture.now m)) }
+fn add_parts(live: &Live<'_, '_>, json: &mut Json, m: Move, parts: Parts<'_>, last: &mut Lines)
+    requires read { All (Reads live.now.state) last.old.all.items }
+    requires tells { TellsMove live.now.state m parts }
+    ensures read { All (Reads live.now.state) last.new.all.items }
+    ensures written { Writes json.old json.new (text (move_text live.now.state m)) }
 {
     let at = last.at;
     if at < last.all.len() {
@@ -314,25 +295,25 @@ fn add_parts(
         }
     }
     let at = place_for(&parts, last);
-    add_at(picture, json, m, parts, at, last);
+    add_at(live, json, m, parts, at, last);
 }
 
 // Writes the text of a move, where this was written before.
-fn add_text(picture: &Picture<'_, '_, '_>, json: &mut Json, m: Move, last: &mut Lines)
-    requires { All (Reads picture.now) last.old.all.items }
-    ensures read { All (Reads picture.now) last.new.all.items }
-    ensures written { Writes json.old json.new (text (move_text picture.now m)) }
+fn add_text(live: &Live<'_, '_>, json: &mut Json, m: Move, last: &mut Lines)
+    requires { All (Reads live.now.state) last.old.all.items }
+    ensures read { All (Reads live.now.state) last.new.all.items }
+    ensures written { Writes json.old json.new (text (move_text live.now.state m)) }
 {
-    let parts = parts_of(picture.live(), m);
-    add_parts(picture, json, m, parts, last);
+    let parts = parts_of(live, m);
+    add_parts(live, json, m, parts, last);
 }
 
 /// Writes the texts of moves.
-pub(crate) fn move_texts(picture: &Picture<'_, '_, '_>, json: &mut Json, moves: &[Move])
-    ensures { Writes json.old json.new (flat_map (λ m. text (move_text picture.now m)) moves.now) }
+pub(crate) fn move_texts(live: &Live<'_, '_>, json: &mut Json, moves: &[Move])
+    ensures { Writes json.old json.new (flat_map (λ m. text (move_text live.now.state m)) moves.now) }
 {
     let mut last = Lines::new(json.allocator(), moves.len());
     for m in moves {
-        add_text(picture, json, *m, &mut last);
+        add_text(live, json, *m, &mut last);
     }
 }

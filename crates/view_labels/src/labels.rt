@@ -6,9 +6,9 @@ use pml_control::ends::Ending;
 use pml_control::findings::{Plan, examine};
 use pml_token::token::Token;
 use run_state::body::Body;
+use run_state::live::Live;
 use run_state::seat::seat_at;
 use std::alloc::{AllocError, Global};
-use view_cells::picture::Picture;
 use view_text::writer::Writer;
 
 // The node of a number where settling ends: so many numbers stand before it where settling ends too.
@@ -50,11 +50,11 @@ fn is_labelled(body: &Body<'_, '_, '_>, number: usize, label: &[u8]) -> bool {
 /// The node that a label of the proctype with this number leads to.
 pub fn node_of_label(
     alloc: Global,
-    picture: &Picture<'_, '_, '_>,
+    live: &Live<'_, '_>,
     sort: usize,
     label: &[u8],
 ) -> Result<Option<usize>, AllocError> {
-    let Some(body) = picture.live().body(sort) else {
+    let Some(body) = live.body(sort) else {
         return Ok(None);
     };
     let plan = examine(alloc, &body.proctype.body)?;
@@ -117,13 +117,13 @@ fn add_at(body: &Body<'_, '_, '_>, plan: &Plan, node: usize, out: &mut Writer)
 }
 
 /// Writes each label that leads to where a process stands: `, critical`.
-pub fn add_labels(picture: &Picture<'_, '_, '_>, process: usize, out: &mut Writer)
+pub fn add_labels(live: &Live<'_, '_>, process: usize, out: &mut Writer)
     ensures { Stays out.old out.new }
 {
-    let Some(seat) = seat_at(picture.live().seats(), process) else {
+    let Some(seat) = seat_at(live.seats(), process) else {
         return;
     };
-    let Some(body) = picture.live().body(seat.sort) else {
+    let Some(body) = live.body(seat.sort) else {
         return;
     };
     match examine(out.allocator(), &body.proctype.body) {

@@ -4,4 +4,5 @@
 pub mod laws;
 pub mod page;
 mod parts;
+pub mod pieces;
 mod script;

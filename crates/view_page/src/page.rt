@@ -1,10 +1,9 @@
 //! The page, and the steps as a list that is read without scripts.
 
 ghost use Rattle.view_text.specs.Written.{Adds};
-ghost use Rattle.view_page.specs.Page.{shown_byte, shown, foreign, held_byte, held, source, page, choice_text, printed_text, step_item, fault_item, end_item};
+ghost use Rattle.view_page.specs.Page.{shown_byte, shown, foreign, held_byte, held, source, choice_text, printed_text, step_item, fault_item, end_item};
 
-use crate::parts::{TO_HEADING, TO_LINES, TO_SOURCE, TO_STEPS, TO_TITLE};
-use crate::script::TO_END;
+use crate::parts::{TO_HEADING, TO_SOURCE, TO_TITLE};
 use diagnostics::Fault;
 use view_foreign::shown::add_shown;
 use view_text::writer::Writer;
@@ -52,7 +51,7 @@ fn add_held_byte(byte: u8, out: &mut Writer)
 }
 
 // Writes lines of JSON so that nothing in them ends the element that holds them.
-fn add_lines(lines: &[u8], out: &mut Writer)
+pub(crate) fn add_lines(lines: &[u8], out: &mut Writer)
     ensures { Adds out.old out.new (held lines.now) }
 {
     for byte in lines {
@@ -69,14 +68,14 @@ pub struct Contents<'c> {
     pub lines: &'c [u8],
 }
 
-fn add_part(part: &str, out: &mut Writer)
+pub(crate) fn add_part(part: &str, out: &mut Writer)
     ensures { Adds out.old out.new part.now }
 {
     out.add(part.as_bytes());
 }
 
 // Writes what stands before the steps.
-fn add_source(contents: Contents<'_>, out: &mut Writer)
+pub(crate) fn add_source(contents: Contents<'_>, out: &mut Writer)
     ensures { Adds out.old out.new (source contents.entry) }
 {
     add_part(TO_TITLE, out);
@@ -85,18 +84,6 @@ fn add_source(contents: Contents<'_>, out: &mut Writer)
     add_foreign(contents.name, out);
     add_part(TO_SOURCE, out);
     add_foreign(contents.model, out);
-}
-
-/// Writes the page.
-pub fn add_page(contents: Contents<'_>, out: &mut Writer)
-    ensures { Adds out.old out.new (page contents.entry) }
-{
-    add_source(contents, out);
-    add_part(TO_STEPS, out);
-    out.add(contents.steps);
-    add_part(TO_LINES, out);
-    add_lines(contents.lines, out);
-    add_part(TO_END, out);
 }
 
 // Writes which choice a step was, where it was one of several.

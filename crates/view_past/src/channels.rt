@@ -4,19 +4,19 @@ ghost use Rattle.view_text.specs.Written.{Stays};
 
 use crate::target::channel_of;
 use crate::uses::{ChannelUse, LastUses, Uses};
+use run_state::live::Live;
 use std::alloc::AllocError;
 use view_cells::channels::add_channel_word;
-use view_cells::picture::Picture;
 use view_cells::processes::add_process;
 use view_text::writer::Writer;
 use view_waits::waits::Wait;
 
 // Writes who did something: `proc 2 (P) took`.
-fn add_use(picture: &Picture<'_, '_, '_>, used: ChannelUse, word: &[u8], out: &mut Writer)
+fn add_use(live: &Live<'_, '_>, used: ChannelUse, word: &[u8], out: &mut Writer)
     ensures { Stays out.old out.new }
 {
     if used.lives {
-        add_process(picture, used.process, out);
+        add_process(live, used.process, out);
     } else {
         out.add(b"proc ");
         out.number(used.process);
@@ -33,37 +33,37 @@ fn add_step(step: usize, out: &mut Writer)
 }
 
 // Writes who used a channel last.
-fn add_last(picture: &Picture<'_, '_, '_>, last: LastUses, out: &mut Writer)
+fn add_last(live: &Live<'_, '_>, last: LastUses, out: &mut Writer)
     ensures { Stays out.old out.new }
 {
     match (last.sent, last.took) {
         (None, None) => out.add(b"nothing was sent or taken"),
         (Some(sent), None) => {
-            add_use(picture, sent, b" sent", out);
+            add_use(live, sent, b" sent", out);
             add_step(sent.step, out);
         }
         (None, Some(took)) => {
-            add_use(picture, took, b" took", out);
+            add_use(live, took, b" took", out);
             add_step(took.step, out);
         }
         (Some(sent), Some(took)) => {
-            add_both(picture, sent, took, out);
+            add_both(live, sent, took, out);
         }
     }
 }
 
-fn add_both(picture: &Picture<'_, '_, '_>, sent: ChannelUse, took: ChannelUse, out: &mut Writer)
+fn add_both(live: &Live<'_, '_>, sent: ChannelUse, took: ChannelUse, out: &mut Writer)
     ensures { Stays out.old out.new }
 {
     if sent.step == took.step {
-        add_use(picture, sent, b" sent and ", out);
-        add_use(picture, took, b" took", out);
+        add_use(live, sent, b" sent and ", out);
+        add_use(live, took, b" took", out);
         add_step(took.step, out);
     } else if sent.step > took.step {
-        add_use(picture, sent, b" sent", out);
+        add_use(live, sent, b" sent", out);
         add_step(sent.step, out);
     } else {
-        add_use(picture, took, b" took", out);
+        add_use(live, took, b" took", out);
         add_step(took.step, out);
     }
 }
@@ -79,7 +79,7 @@ fn has(known: &[usize], number: usize) -> bool {
 
 // Writes the line of the channel that a process waits at, unless it was written.
 fn add_channel(
-    picture: &Picture<'_, '_, '_>,
+    live: &Live<'_, '_>,
     wait: &Wait,
     uses: &Uses,
     known: &mut Vec<usize>,
@@ -87,23 +87,23 @@ fn add_channel(
 ) -> Result<(), AllocError>
     ensures { Stays out.old out.new }
 {
-    let Some(number) = channel_of(picture, wait) else {
+    let Some(number) = channel_of(live, wait) else {
         return Ok(());
     };
     if has(known.as_slice(), number) {
         return Ok(());
     }
     known.push(number)?;
-    add_channel_word(picture, number, out);
+    add_channel_word(live, number, out);
     out.add(b": ");
-    add_last(picture, uses.of(number), out);
+    add_last(live, uses.of(number), out);
     out.add(b"\n");
     Ok(())
 }
 
 /// Writes a line for each channel that is waited at, of these waits, unless it is known: who used it last.
 pub fn add_channels(
-    picture: &Picture<'_, '_, '_>,
+    live: &Live<'_, '_>,
     waits: &[Wait],
     uses: &Uses,
     known: &mut Vec<usize>,
@@ -112,7 +112,7 @@ pub fn add_channels(
     ensures { Stays out.old out.new }
 {
     for wait in waits {
-        add_channel(picture, wait, uses, known, out)?;
+        add_channel(live, wait, uses, known, out)?;
     }
     Ok(())
 }

@@ -4,7 +4,7 @@ ghost use Rattle.view_text.specs.Written.{Stays};
 
 use crate::target::channel_of;
 use crate::uses::{ChannelUse, Uses};
-use view_cells::picture::Picture;
+use run_state::live::Live;
 use view_text::writer::Writer;
 use view_waits::because::Because;
 use view_waits::waits::Wait;
@@ -33,16 +33,11 @@ fn later(one: Option<ChannelUse>, two: Option<ChannelUse>) -> Option<ChannelUse>
 }
 
 /// The process that one with this only wait waits for: the other that used its channel last, or the youngest, whose end it waits for.
-pub fn awaited(
-    picture: &Picture<'_, '_, '_>,
-    process: usize,
-    wait: &Wait,
-    uses: &Uses,
-) -> Option<usize> {
+pub fn awaited(live: &Live<'_, '_>, process: usize, wait: &Wait, uses: &Uses) -> Option<usize> {
     if let Because::Younger(youngest) = wait.because {
         return Some(youngest);
     }
-    let last = uses.of(channel_of(picture, wait)?);
+    let last = uses.of(channel_of(live, wait)?);
     let used = later(other(last.sent, process), other(last.took, process))?;
     Some(used.process)
 }

@@ -6,7 +6,6 @@ use promela_run::moves::Pick;
 use run_search::executable::named;
 use run_search::picked::picked;
 use run_state::live::Live;
-use view_cells::picture::Picture;
 use view_waits::waits::Wait;
 
 fn number_of(number: i32) -> usize {
@@ -46,9 +45,9 @@ fn of_pick(live: &Live<'_, '_>, pick: Pick, timeout: bool) -> Option<usize> {
 }
 
 /// The number of the channel that a process waits at to send or to receive.
-pub fn channel_of(picture: &Picture<'_, '_, '_>, wait: &Wait) -> Option<usize> {
+pub fn channel_of(live: &Live<'_, '_>, wait: &Wait) -> Option<usize> {
     match wait.pick {
-        Some(pick) => of_pick(picture.live(), pick, wait.timeout),
+        Some(pick) => of_pick(live, pick, wait.timeout),
         None => None,
     }
 }

@@ -1,8 +1,8 @@
 //! Who sent to a channel, and who took from it, last.
 
 use promela_run::moves::Move;
+use run_state::live::Live;
 use std::alloc::{AllocError, Global};
-use view_cells::picture::Picture;
 use view_waits::transfer::{Does, transfer_of};
 use view_waits::waits::starter_of;
 
@@ -103,14 +103,14 @@ impl Uses {
     }
 
     /// A step takes this move of the present state.
-    pub fn add(
-        &mut self,
-        picture: &Picture<'_, '_, '_>,
+    pub fn add<'w>(
+        &'w mut self,
+        live: &'w Live<'_, '_>,
         m: &Move,
         step: usize,
     ) -> Result<(), AllocError> {
-        let transfer = transfer_of(*self.channels.allocator(), picture, m)?;
-        self.widen(picture.channel_count())?;
+        let transfer = transfer_of(*self.channels.allocator(), live, m)?;
+        self.widen(live.channels().len())?;
         self.put(transfer.channel, transfer.does, m, step);
         Ok(())
     }

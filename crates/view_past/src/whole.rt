@@ -4,7 +4,6 @@ ghost use Rattle.view_text.specs.Written.{Stays};
 
 use promela_run::live_channel::LiveChannel;
 use run_state::live::Live;
-use view_cells::picture::Picture;
 use view_text::writer::Writer;
 
 fn add_number(number: usize, out: &mut Writer)
@@ -49,14 +48,14 @@ fn add_channel(live: &LiveChannel, out: &mut Writer)
 }
 
 /// Writes a whole state.
-pub fn add_whole(picture: &Picture<'_, '_, '_>, out: &mut Writer)
+pub fn add_whole(live: &Live<'_, '_>, out: &mut Writer)
     ensures { Stays out.old out.new }
 {
-    add_processes(picture.live(), out);
+    add_processes(live, out);
     out.add(b"; ");
-    for live in picture.live().channels() {
+    for live in live.channels() {
         add_channel(live, out);
     }
     out.add(b"; ");
-    add_numbers(picture.variables().cells().as_slice(), out);
+    add_numbers(live.variables().cells().as_slice(), out);
 }

@@ -10,7 +10,6 @@ use run_search::picked::picked;
 use run_state::live::Live;
 use std::alloc::{AllocError, Global};
 use view_cells::cells::{add_path, add_value, form_at};
-use view_cells::picture::Picture;
 use view_cells::processes::{add_name, add_process};
 use view_text::writer::Writer;
 use view_waits::because::Because;
@@ -111,14 +110,10 @@ fn add_of_pick(live: &Live<'_, '_>, pick: Pick, timeout: bool, reads: &mut Reads
 }
 
 /// What the condition reads that a process waits at.
-pub fn reads_of(
-    alloc: Global,
-    picture: &Picture<'_, '_, '_>,
-    wait: &Wait,
-) -> Result<Reads, AllocError> {
+pub fn reads_of(alloc: Global, live: &Live<'_, '_>, wait: &Wait) -> Result<Reads, AllocError> {
     let mut reads = Reads::new(alloc);
     if let (Some(pick), Because::False) = (wait.pick, wait.because) {
-        add_of_pick(picture.live(), pick, wait.timeout, &mut reads);
+        add_of_pick(live, pick, wait.timeout, &mut reads);
     }
     reads.answer()?;
     Ok(reads)
@@ -143,12 +138,12 @@ fn cell_of(read: ReadValue) -> Option<Place> {
 /// The process that one with this only wait waits for at a condition: the one other process that wrote last what that reads.
 pub fn awaited_writer(
     alloc: Global,
-    picture: &Picture<'_, '_, '_>,
+    live: &Live<'_, '_>,
     process: usize,
     wait: &Wait,
     writings: &Writings,
 ) -> Result<Option<usize>, AllocError> {
-    let reads = reads_of(alloc, picture, wait)?;
+    let reads = reads_of(alloc, live, wait)?;
     let mut found = None;
     for read in reads.items() {
         let Some(other) = writer_of(*read, process, writings) else {
@@ -173,42 +168,37 @@ fn writer_of(read: ReadValue, process: usize, writings: &Writings) -> Option<usi
 }
 
 /// Writes the name of a cell, as commands take it: `x`, or `P[2].x` of process 2.
-pub fn add_cell_name(picture: &Picture<'_, '_, '_>, place: Place, out: &mut Writer)
+pub fn add_cell_name(live: &Live<'_, '_>, place: Place, out: &mut Writer)
     ensures { Stays out.old out.new }
 {
     if place.frame > 0 {
-        add_name(picture, place.frame - 1, out);
+        add_name(live, place.frame - 1, out);
         out.add(b"[");
         out.number(place.frame - 1);
         out.add(b"].");
     }
-    add_path(picture, place, out);
+    add_path(live, place, out);
 }
 
 /// Writes who wrote a cell last: `sem: proc 1 (B) set 0 at step 4`.
-pub fn add_writing(
-    picture: &Picture<'_, '_, '_>,
-    place: Place,
-    writing: Option<Writing>,
-    out: &mut Writer,
-)
+pub fn add_writing(live: &Live<'_, '_>, place: Place, writing: Option<Writing>, out: &mut Writer)
     ensures { Stays out.old out.new }
 {
-    add_cell_name(picture, place, out);
+    add_cell_name(live, place, out);
     let Some(writing) = writing else {
         out.add(b": no step set it\n");
         return;
     };
     out.add(b": ");
     if writing.lives {
-        add_process(picture, writing.process, out);
+        add_process(live, writing.process, out);
     } else {
         out.add(b"proc ");
         out.number(writing.process);
         out.add(b", which has ended,");
     }
     out.add(b" set ");
-    add_value(picture, form_at(picture, place), writing.number, out);
+    add_value(live, form_at(live, place), writing.number, out);
     out.add(b" at step ");
     out.number(writing.step);
     out.add(b"\n");
@@ -225,7 +215,7 @@ fn has(known: &[Place], place: Place) -> bool {
 
 // Writes the line of a cell that is read, unless it is known.
 fn add_known(
-    picture: &Picture<'_, '_, '_>,
+    live: &Live<'_, '_>,
     read: ReadValue,
     writings: &Writings,
     known: &mut Vec<Place>,
@@ -240,13 +230,13 @@ fn add_known(
         return Ok(());
     }
     known.push(place)?;
-    add_writing(picture, place, writings.of(place), out);
+    add_writing(live, place, writings.of(place), out);
     Ok(())
 }
 
 // Writes the lines of what the condition of a wait reads.
 fn add_read(
-    picture: &Picture<'_, '_, '_>,
+    live: &Live<'_, '_>,
     wait: &Wait,
     writings: &Writings,
     known: &mut Vec<Place>,
@@ -254,16 +244,16 @@ fn add_read(
 ) -> Result<(), AllocError>
     ensures { Stays out.old out.new }
 {
-    let reads = reads_of(out.allocator(), picture, wait)?;
+    let reads = reads_of(out.allocator(), live, wait)?;
     for read in reads.items() {
-        add_known(picture, *read, writings, known, out)?;
+        add_known(live, *read, writings, known, out)?;
     }
     Ok(())
 }
 
 /// Writes a line for each cell that the conditions of these waits read, unless it is known: who wrote it last on this walk.
 pub fn add_writers(
-    picture: &Picture<'_, '_, '_>,
+    live: &Live<'_, '_>,
     waits: &[Wait],
     writings: &Writings,
     known: &mut Vec<Place>,
@@ -272,7 +262,7 @@ pub fn add_writers(
     ensures { Stays out.old out.new }
 {
     for wait in waits {
-        add_read(picture, wait, writings, known, out)?;
+        add_read(live, wait, writings, known, out)?;
     }
     Ok(())
 }

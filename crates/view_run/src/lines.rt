@@ -19,7 +19,6 @@ use view_past::whole::add_whole;
 use view_session::notes::Notes;
 use view_session::past::history_of;
 use view_session::replay::Replay;
-use view_session::seen::picture_of;
 use view_session::steps::choose;
 use view_state::choices::add_move;
 use view_text::writer::Writer;
@@ -105,7 +104,7 @@ fn keep_state(walk: &Walk<'_, '_>, sheet: &mut Sheet) -> Result<Option<usize>, A
         return Ok(None);
     }
     let mut text = Writer::new(sheet.lines.allocator());
-    add_whole(&picture_of(walk.world()), &mut text);
+    add_whole(walk.world().live(), &mut text);
     let text = text.finish()?;
     sheet.states.add(text.as_slice())
 }
@@ -145,8 +144,8 @@ fn front_of(walk: &Walk<'_, '_>, event: &str, taking: Taking<'_>, sheet: &Sheet)
         moves: taking.moves,
         transfer: taking.transfer,
     };
-    let picture = picture_of(walk.world());
-    front(&picture, sheet.lines.allocator(), event, ahead, &taking.m)
+    let live = walk.world().live();
+    front(live, sheet.lines.allocator(), event, ahead, &taking.m)
 }
 
 // What a trail says beside the last step of a walk.
@@ -178,7 +177,7 @@ fn add_taken(
         note: note_of(walk, sheet),
     };
     add_step(
-        &picture_of(walk.world()),
+        walk.world().live(),
         front,
         done,
         moves.as_slice(),
@@ -190,10 +189,10 @@ fn add_taken(
 // Writes a step that came to a fault, and that the run ends so.
 fn add_faulted(walk: &Walk<'_, '_>, fault: Fault, taking: Taking<'_>, sheet: &mut Sheet) {
     let again = front_of(walk, "fault", taking, sheet);
-    let picture = picture_of(walk.world());
+    let live = walk.world().live();
     let lines = &mut sheet.lines;
-    add_fault(&picture, again, &taking.m, fault, taking.moves, lines);
-    add_end(&picture, walk.at(), "fault", &[], None, lines);
+    add_fault(live, again, &taking.m, fault, taking.moves, lines);
+    add_end(live, walk.at(), "fault", &[], None, lines);
 }
 
 // The text of a move, if items are wanted.
@@ -202,7 +201,7 @@ fn item_text(walk: &Walk<'_, '_>, m: &Move, sheet: &Sheet) -> Writer
 {
     let mut text = Writer::new(sheet.lines.allocator());
     if sheet.has_items {
-        add_move(&picture_of(walk.world()), m, &mut text);
+        add_move(walk.world().live(), m, &mut text);
     }
     text
 }
@@ -218,7 +217,7 @@ fn take(
     let alloc = sheet.lines.allocator();
     let text = item_text(walk, &taking.m, sheet);
     let front = front_of(walk, "step", taking, sheet);
-    let choices = choices_of(&picture_of(walk.world()), alloc, taking.moves);
+    let choices = choices_of(walk.world().live(), alloc, taking.moves);
     let older = walk.world().process_count();
     let mut printed = Vec::new(alloc);
     step_from(walk, sheet)?;
@@ -254,7 +253,7 @@ fn take_choice(
     let Some(m) = move_at(moves, choice) else {
         return Ok(Some("choice misfit"));
     };
-    let transfer = transfer_of(sheet.lines.allocator(), &picture_of(walk.world()), &m)?;
+    let transfer = transfer_of(sheet.lines.allocator(), walk.world().live(), &m)?;
     let taking = Taking {
         choice,
         moves,
@@ -275,8 +274,8 @@ fn add_ending(
 {
     let at = walk.at();
     if end != "invalid" {
-        let picture = picture_of(walk.world());
-        add_end(&picture, at, end, moves, None, &mut sheet.lines);
+        let live = walk.world().live();
+        add_end(live, at, end, moves, None, &mut sheet.lines);
         return Ok(());
     }
     let history = history_of(walk, &sheet.lines)?;
@@ -284,8 +283,8 @@ fn add_ending(
         uses: &history.uses,
         writings: &history.writings,
     };
-    let picture = picture_of(walk.world());
-    add_end(&picture, at, end, moves, Some(past), &mut sheet.lines);
+    let live = walk.world().live();
+    add_end(live, at, end, moves, Some(past), &mut sheet.lines);
     Ok(())
 }
 

@@ -8,7 +8,6 @@ use promela_run::moves::Move;
 use session::{Answer, Broken};
 use std::alloc::Global;
 use view_session::replay::Replay;
-use view_session::seen::picture_of;
 use view_state::choices::ending_of;
 use view_walk::walk::Walk;
 
@@ -36,7 +35,7 @@ pub fn follow<S: Source>(
     requires { moves.now ≡ world.world_moves walk.now.state }
 {
     if moves.is_empty() {
-        return Ok(Next::End(ending_of(&picture_of(walk.world()))));
+        return Ok(Next::End(ending_of(walk.world().live())));
     }
     if walk.at() >= limit {
         return Ok(Next::End("step limit"));

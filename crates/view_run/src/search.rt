@@ -111,20 +111,6 @@ impl<'t> Search<'t> {
     pub fn is_cut(&self) -> bool {
         self.is_cut
     }
-
-    /// Leads to where the farthest line was come to.
-    pub fn lead(&mut self, walk: &mut Walk<'_, '_>, printed: &mut Vec<u8>) -> Result<(), AllocError>
-        ensures { SameModel walk.old walk.new }
-    {
-        go_to(walk, 0)?;
-        for leg in self.best.as_slice() {
-            printed.clear();
-            choose(walk, leg.choice, printed)?;
-        }
-        self.rows.clear();
-        self.rows.extend_from_slice(self.best_rows.as_slice())?;
-        Ok(())
-    }
 }
 
 /// Leads behind so many of the steps of a walk, and forgets those to come.
@@ -134,5 +120,23 @@ pub fn go_to(walk: &mut Walk<'_, '_>, at: usize) -> Result<(), AllocError>
     let at = at.min(walk.legs().len());
     walk.go_to(at)?;
     walk.forget();
+    Ok(())
+}
+
+/// Leads to where the farthest line was come to.
+pub fn lead(
+    walk: &mut Walk<'_, '_>,
+    search: &mut Search<'_>,
+    printed: &mut Vec<u8>,
+) -> Result<(), AllocError>
+    ensures { SameModel walk.old walk.new }
+{
+    go_to(walk, 0)?;
+    for leg in search.best.as_slice() {
+        printed.clear();
+        choose(walk, leg.choice, printed)?;
+    }
+    search.rows.clear();
+    search.rows.extend_from_slice(search.best_rows.as_slice())?;
     Ok(())
 }

@@ -7,7 +7,6 @@ use crate::next::{Next, follow};
 use devices::Source;
 use session::Broken;
 use view_session::replay::Replay;
-use view_session::seen::picture_of;
 use view_session::steps::{Taken, take};
 use view_session::told::Told;
 use view_state::choices::add_ending;
@@ -31,7 +30,7 @@ fn add_last(walk: &Walk<'_, '_>, end: &str, has_moves: bool, out: &mut Writer)
     if has_moves {
         add_stop(end, walk.at(), out);
     } else {
-        add_ending(&picture_of(walk.world()), walk.at(), out);
+        add_ending(walk.world().live(), walk.at(), out);
     }
 }
 

@@ -1,8 +1,10 @@
 //! A walk along a trail of Spin.
 
+ghost use Rattle.std.specs.Prelude.{◌≡◌};
 ghost use Rattle.view_text.specs.Written.{Stays};
 ghost use Rattle.view_walk.specs.Walks.{SameModel};
 
+use crate::search;
 use crate::search::{Fork, Search, go_to};
 use session::Answer;
 use std::alloc::{AllocError, Global};
@@ -10,7 +12,6 @@ use trail_text::entry::{Entry, is_ended};
 use trail_text::marks::Marks;
 use trail_text::trail::Trail;
 use view_session::replay::Along;
-use view_session::seen::picture_of;
 use view_session::steps::choose;
 use view_text::writer::Writer;
 use view_trail::difference::{Difference, difference_at};
@@ -119,8 +120,8 @@ fn ways_from<'t>(
     ensures { Stays scratch.old scratch.new }
 {
     let moves = walk.moves()?;
-    let picture = picture_of(walk.world());
-    ways_on(&picture, moves.as_slice(), marks, trail, entry, scratch)
+    let live = walk.world().live();
+    ways_on(live, moves.as_slice(), marks, trail, entry, scratch)
 }
 
 // For which difference of Spin no way leads on from where a walk stands.
@@ -133,47 +134,49 @@ fn difference_from(
 ) -> Option<Difference>
     ensures { Stays scratch.old scratch.new }
 {
-    difference_at(&picture_of(walk.world()), marks, trail, entry, scratch)
+    difference_at(walk.world().live(), marks, trail, entry, scratch)
+}
+
+// Takes the move with this number for a line.
+fn take(
+    walk: &mut Walk<'_, '_>,
+    lead: &mut Lead<'_, '_>,
+    choice: usize,
+    row: usize,
+) -> Result<Gone, AllocError>
+    ensures { SameModel walk.old walk.new }
+{
+    lead.search.step(walk.at(), row)?;
+    lead.printed.clear();
+    match choose(walk, choice, &mut lead.printed)? {
+        Went::On => Ok(Gone::On),
+        Went::Faults(_) => Ok(faulted(&mut lead.trail, choice, walk.at())),
+        Went::Nowhere => Ok(Gone::End(Followed::Whole)),
+    }
+}
+
+// Takes a way.
+fn go<'t>(
+    walk: &mut Walk<'_, '_>,
+    lead: &mut Lead<'_, 't>,
+    way: EntryWay<'t>,
+    row: usize,
+) -> Result<Gone, AllocError>
+    ensures { SameModel walk.old walk.new }
+{
+    lead.trail = way.trail;
+    lead.tried = 0;
+    match way.choice {
+        Some(choice) => take(walk, lead, choice, row),
+        None => Ok(Gone::On),
+    }
 }
 
 impl<'s, 't> Lead<'s, 't> {
-    // Takes the move with this number for a line.
-    fn take(
-        &mut self,
-        walk: &mut Walk<'_, '_>,
-        choice: usize,
-        row: usize,
-    ) -> Result<Gone, AllocError>
-        ensures { SameModel walk.old walk.new }
-    {
-        self.search.step(walk.at(), row)?;
-        self.printed.clear();
-        match choose(walk, choice, &mut self.printed)? {
-            Went::On => Ok(Gone::On),
-            Went::Faults(_) => Ok(faulted(&mut self.trail, choice, walk.at())),
-            Went::Nowhere => Ok(Gone::End(Followed::Whole)),
-        }
-    }
-
-    // Takes a way.
-    fn go(
-        &mut self,
-        walk: &mut Walk<'_, '_>,
-        way: EntryWay<'t>,
-        row: usize,
-    ) -> Result<Gone, AllocError>
-        ensures { SameModel walk.old walk.new }
-    {
-        self.trail = way.trail;
-        self.tried = 0;
-        match way.choice {
-            Some(choice) => self.take(walk, choice, row),
-            None => Ok(Gone::On),
-        }
-    }
-
     // Keeps the ways on from here that are left behind the one that is taken.
-    fn keep(&mut self, at: usize, count: usize) -> Result<(), AllocError> {
+    fn keep(&mut self, at: usize, count: usize) -> Result<(), AllocError>
+        ensures { self.new.tried ≡ self.old.tried }
+    {
         let tried = self.tried.saturating_add(1);
         if tried >= count {
             return Ok(());
@@ -191,7 +194,9 @@ impl<'s, 't> Lead<'s, 't> {
     }
 
     // The next line came to be the next, if it is another than before.
-    fn arrive(&mut self, row: usize, at: usize) {
+    fn arrive(&mut self, row: usize, at: usize)
+        ensures { self.new.tried ≡ self.old.tried }
+    {
         if self.arrival.row != row {
             self.arrival = Arrival {
                 row,
@@ -200,120 +205,139 @@ impl<'s, 't> Lead<'s, 't> {
             };
         }
     }
+}
 
-    // Takes the next way on by a line.
-    fn follow(&mut self, walk: &mut Walk<'_, '_>, entry: &Entry<'_>) -> Result<Gone, AllocError>
-        ensures { SameModel walk.old walk.new }
-    {
-        let mut scratch = Writer::new(*self.printed.allocator());
-        let trail = self.trail;
-        let marks = self.marks;
-        let ways = ways_from(walk, marks, &trail, entry, &mut scratch)?;
-        self.scratch.keep_refusal(&scratch);
-        match ways.get(self.tried) {
-            Some(way) => {
-                self.keep(walk.at(), ways.len())?;
-                self.go(walk, way, entry.row)
-            }
-            None => Ok(self.dead(entry.row)),
+// The ways on by a line.
+fn ways_of<'t>(
+    walk: &Walk<'_, '_>,
+    lead: &mut Lead<'_, 't>,
+    entry: &Entry<'_>,
+) -> Result<Ways<'t>, AllocError>
+    ensures { lead.new.tried ≡ lead.old.tried }
+{
+    let mut scratch = Writer::new(*lead.printed.allocator());
+    let trail = lead.trail;
+    let marks = lead.marks;
+    let ways = ways_from(walk, marks, &trail, entry, &mut scratch)?;
+    lead.scratch.keep_refusal(&scratch);
+    Ok(ways)
+}
+
+// Takes the next way on by a line.
+fn follow(
+    walk: &mut Walk<'_, '_>,
+    lead: &mut Lead<'_, '_>,
+    entry: &Entry<'_>,
+) -> Result<Gone, AllocError>
+    ensures { SameModel walk.old walk.new }
+{
+    let ways = ways_of(walk, lead, entry)?;
+    match ways.get(lead.tried) {
+        Some(way) => {
+            lead.keep(walk.at(), ways.len())?;
+            go(walk, lead, way, entry.row)
         }
+        None => Ok(lead.dead(entry.row)),
     }
+}
 
-    // Goes on by a way.
-    fn step(&mut self, walk: &mut Walk<'_, '_>) -> Result<Gone, AllocError>
-        ensures { SameModel walk.old walk.new }
-    {
-        let Some(entry) = self.trail.next() else {
-            return Ok(Gone::End(Followed::Whole));
-        };
-        if walk.at() >= self.limit {
-            return Ok(Gone::End(Followed::Limit));
-        }
-        self.arrive(entry.row, walk.at());
-        let gone = self.follow(walk, &entry)?;
-        if self.scratch.is_refused() {
-            return Err(AllocError);
-        }
-        Ok(gone)
+// Goes on by a way.
+fn step(walk: &mut Walk<'_, '_>, lead: &mut Lead<'_, '_>) -> Result<Gone, AllocError>
+    ensures { SameModel walk.old walk.new }
+{
+    let Some(entry) = lead.trail.next() else {
+        return Ok(Gone::End(Followed::Whole));
+    };
+    if walk.at() >= lead.limit {
+        return Ok(Gone::End(Followed::Limit));
     }
-
-    // Goes back to the last place with a way that is left. Whether there is one.
-    fn back(&mut self, walk: &mut Walk<'_, '_>) -> Result<bool, AllocError>
-        ensures { SameModel walk.old walk.new }
-    {
-        let Some(fork) = self.search.back() else {
-            return Ok(false);
-        };
-        go_to(walk, fork.at)?;
-        self.trail = fork.trail;
-        self.tried = fork.tried;
-        self.arrival.row = 0;
-        Ok(true)
+    lead.arrive(entry.row, walk.at());
+    let gone = follow(walk, lead, &entry)?;
+    if lead.scratch.is_refused() {
+        return Err(AllocError);
     }
+    Ok(gone)
+}
 
-    // Keeps how far a way came from which none leads on, if none came farther. How far the trail was followed then.
-    fn keep_farthest(
-        &mut self,
-        walk: &Walk<'_, '_>,
-        at: usize,
-        followed: Followed,
-    ) -> Result<Option<Followed>, AllocError> {
-        let at = at.min(walk.legs().len());
-        if !self.search.end(&walk.legs()[..at], self.arrival.row)? {
-            return Ok(None);
-        }
-        self.farthest = self.arrival;
-        Ok(Some(followed))
+// Goes back to the last place with a way that is left. Whether there is one.
+fn back(walk: &mut Walk<'_, '_>, lead: &mut Lead<'_, '_>) -> Result<bool, AllocError>
+    ensures { SameModel walk.old walk.new }
+{
+    let Some(fork) = lead.search.back() else {
+        return Ok(false);
+    };
+    go_to(walk, fork.at)?;
+    lead.trail = fork.trail;
+    lead.tried = fork.tried;
+    lead.arrival.row = 0;
+    Ok(true)
+}
+
+// Keeps how far a way came from which none leads on, if none came farther. How far the trail was followed then.
+fn keep_farthest(
+    walk: &Walk<'_, '_>,
+    lead: &mut Lead<'_, '_>,
+    at: usize,
+    followed: Followed,
+) -> Result<Option<Followed>, AllocError> {
+    let at = at.min(walk.legs().len());
+    if !lead.search.end(&walk.legs()[..at], lead.arrival.row)? {
+        return Ok(None);
     }
+    lead.farthest = lead.arrival;
+    Ok(Some(followed))
+}
 
-    // For which difference of Spin no way leads on from where a walk stands, at the farthest line.
-    fn explained(&mut self, walk: &Walk<'_, '_>, followed: Followed) -> Followed {
-        let (Followed::Misfit(row, _), Some(entry)) = (followed, self.farthest.trail.next()) else {
-            return followed;
-        };
-        let mut scratch = Writer::new(*self.printed.allocator());
-        let trail = self.farthest.trail;
-        let marks = self.marks;
-        let difference = difference_from(walk, marks, &trail, &entry, &mut scratch);
-        self.scratch.keep_refusal(&scratch);
-        Followed::Misfit(row, difference)
-    }
+// For which difference of Spin no way leads on from where a walk stands, at the farthest line.
+fn explained(walk: &Walk<'_, '_>, lead: &mut Lead<'_, '_>, followed: Followed) -> Followed {
+    let (Followed::Misfit(row, _), Some(entry)) = (followed, lead.farthest.trail.next()) else {
+        return followed;
+    };
+    let mut scratch = Writer::new(*lead.printed.allocator());
+    let trail = lead.farthest.trail;
+    let marks = lead.marks;
+    let difference = difference_from(walk, marks, &trail, &entry, &mut scratch);
+    lead.scratch.keep_refusal(&scratch);
+    Followed::Misfit(row, difference)
+}
 
-    // Follows the trail to its end, or as far as any way leads.
-    fn follow_all(&mut self, walk: &mut Walk<'_, '_>) -> Result<(bool, Followed), AllocError>
-        ensures { SameModel walk.old walk.new }
-    {
-        let mut farthest = Followed::Whole;
-        for _turn in 0..u64::MAX {
-            match self.step(walk)? {
-                Gone::On => {}
-                Gone::End(followed) => return Ok((true, followed)),
-                Gone::Dead(at, followed) => {
-                    farthest = self.keep_farthest(walk, at, followed)?.unwrap_or(farthest);
-                    if !self.back(walk)? {
-                        break;
-                    }
+// Follows the trail to its end, or as far as any way leads.
+fn follow_all(
+    walk: &mut Walk<'_, '_>,
+    lead: &mut Lead<'_, '_>,
+) -> Result<(bool, Followed), AllocError>
+    ensures { SameModel walk.old walk.new }
+{
+    let mut farthest = Followed::Whole;
+    for _turn in 0..u64::MAX {
+        match step(walk, lead)? {
+            Gone::On => {}
+            Gone::End(followed) => return Ok((true, followed)),
+            Gone::Dead(at, followed) => {
+                farthest = keep_farthest(walk, lead, at, followed)?.unwrap_or(farthest);
+                if !back(walk, lead)? {
+                    break;
                 }
             }
         }
-        Ok((false, farthest))
     }
+    Ok((false, farthest))
+}
 
-    // Follows the trail, and leads to its farthest line where no way leads on. How far that was.
-    fn run(&mut self, walk: &mut Walk<'_, '_>) -> Result<Followed, AllocError>
-        ensures { SameModel walk.old walk.new }
-    {
-        let (is_end, followed) = self.follow_all(walk)?;
-        if is_end {
-            return Ok(followed);
-        }
-        self.search.lead(walk, &mut self.printed)?;
-        let followed = self.explained(walk, followed);
-        if self.scratch.is_refused() {
-            return Err(AllocError);
-        }
-        Ok(followed)
+// Follows the trail, and leads to its farthest line where no way leads on. How far that was.
+fn run(walk: &mut Walk<'_, '_>, lead: &mut Lead<'_, '_>) -> Result<Followed, AllocError>
+    ensures { SameModel walk.old walk.new }
+{
+    let (is_end, followed) = follow_all(walk, lead)?;
+    if is_end {
+        return Ok(followed);
     }
+    search::lead(walk, &mut lead.search, &mut lead.printed)?;
+    let followed = explained(walk, lead, followed);
+    if lead.scratch.is_refused() {
+        return Err(AllocError);
+    }
+    Ok(followed)
 }
 
 // What came of a trail that has no line of one.
@@ -357,7 +381,7 @@ pub fn follow_trail(
     if lead.trail.next().is_none() && !is_ended(text) {
         return Ok(empty(alloc));
     }
-    let followed = lead.run(walk)?;
+    let followed = run(walk, &mut lead)?;
     let mut rows = Vec::new(alloc);
     rows.extend_from_slice(lead.search.rows(walk.at()))?;
     Ok(Came {

@@ -10,7 +10,6 @@ use crate::past::add_past;
 use crate::question::{add_question, add_whole_question};
 use crate::record::add_record;
 use crate::replay::Along;
-use crate::seen::picture_of;
 use crate::showing::show;
 use crate::steps::{Taken, take};
 use crate::taking::take_single;
@@ -135,7 +134,7 @@ fn show_why(walk: &mut Walk<'_, '_>, is_all: bool, out: &mut Writer) -> Result<(
     ensures stays { Stays out.old out.new }
 {
     let moves = walk.moves()?;
-    add_why(&picture_of(walk.world()), moves.as_slice(), is_all, out)?;
+    add_why(walk.world().live(), moves.as_slice(), is_all, out)?;
     add_past(walk, moves.as_slice(), out)
 }
 
@@ -161,6 +160,32 @@ fn show_values(shows: bool, told: &mut Told)
     });
 }
 
+// Writes what a command shows of the state, or of the walk.
+fn show_state<'l>(walk: &Walk<'_, '_>, setting: Setting<'_>, command: Command<'l>, told: &mut Told)
+    ensures { Stays told.old.out told.new.out }
+{
+    let live = walk.world().live();
+    match command {
+        Command::State(is_all) => add_state(live, is_all, &mut told.out),
+        Command::Source => add_source(live, setting.text, &mut told.out),
+        Command::Record => add_record(walk.legs(), &mut told.out),
+        _ => told.branches.add(walk.legs(), &mut told.out),
+    }
+}
+
+// Writes what a command asks of the session itself.
+fn show_words<'l>(command: Command<'l>, told: &mut Told)
+    ensures { Stays told.old.out told.new.out }
+{
+    match command {
+        Command::Help => told.out.add(HELP.as_bytes()),
+        Command::HelpOf(name) => add_help(name, &mut told.out),
+        Command::Wrong(form) => told.out.add(form.as_bytes()),
+        Command::Show(shows) => show_values(shows, told),
+        _ => told.out.add(b"no such command: help lists them\n"),
+    }
+}
+
 // Does what a command says that neither ends nor saves. What is still to be done, behind what is shown first.
 fn obey<'l>(
     walk: &mut Walk<'_, '_>,
@@ -172,30 +197,36 @@ fn obey<'l>(
     ensures model { SameModel walk.old walk.new }
     ensures stays { Stays told.old.out told.new.out }
 {
-    match command {
-        Command::Choose => choose(walk, setting.limit, words, told)?,
-        Command::State(is_all) => add_state(&picture_of(walk.world()), is_all, &mut told.out),
-        Command::Why(is_all) => show_why(walk, is_all, &mut told.out)?,
-        Command::Moves(true) => add_whole_question(walk, told)?,
-        Command::Chart => show_chart(walk, told)?,
-        Command::Source => add_source(&picture_of(walk.world()), setting.text, &mut told.out),
-        Command::Record => add_record(walk.legs(), &mut told.out),
-        Command::Branches => told.branches.add(walk.legs(), &mut told.out),
-        Command::Help => told.out.add(HELP.as_bytes()),
-        Command::HelpOf(name) => add_help(name, &mut told.out),
-        Command::Wrong(form) => told.out.add(form.as_bytes()),
-        Command::Unknown => told.out.add(b"no such command: help lists them\n"),
-        Command::Steps(from) => add_steps(walk, from, told)?,
-        Command::MovesOf(process) => add_moves_of(walk, process, &mut told.out)?,
-        Command::Show(shows) => show_values(shows, told),
-        Command::Break(_) | Command::Breaks | Command::Delete(_) => {
-            show(walk.world(), command, told)?;
-        }
+    let done = match command {
+        Command::Choose => choose(walk, setting.limit, words, told),
+        Command::Why(is_all) => show_why(walk, is_all, &mut told.out),
+        Command::Moves(true) => add_whole_question(walk, told),
+        Command::Chart => show_chart(walk, told),
+        Command::Steps(from) => add_steps(walk, from, told),
+        Command::MovesOf(process) => add_moves_of(walk, process, &mut told.out),
+        Command::Break(_) | Command::Breaks | Command::Delete(_) => show(
+            walk.world(),
+            command,
+            told,
+        ),
         Command::Print(_) | Command::Display(_) | Command::Undisplay(_) => {
-            show(walk.world(), command, told)?;
+            show(walk.world(), command, told)
+        }
+        Command::State(_) | Command::Source | Command::Record | Command::Branches => {
+            show_state(walk, setting, command, told);
+            Ok(())
+        }
+        Command::Help
+        | Command::HelpOf(_)
+        | Command::Wrong(_)
+        | Command::Show(_)
+        | Command::Unknown => {
+            show_words(command, told);
+            Ok(())
         }
         _ => return go(walk, setting.limit, command, told),
-    }
+    };
+    done?;
     Ok(None)
 }
 

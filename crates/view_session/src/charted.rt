@@ -4,7 +4,6 @@ ghost use Rattle.view_text.specs.Written.{Stays};
 ghost use Rattle.view_walk.specs.Walks.{SameModel};
 
 use crate::notes::Notes;
-use crate::seen::picture_of;
 use crate::steps::move_at;
 use promela_run::moves::Move;
 use std::alloc::AllocError;
@@ -18,9 +17,9 @@ use view_walk::walk::Walk;
 fn add_births(walk: &Walk<'_, '_>, width: usize, older: usize, out: &mut Writer)
     ensures { Stays out.old out.new }
 {
-    let picture = picture_of(walk.world());
-    for process in older..picture.process_count() {
-        add_birth(&picture, width, walk.at(), process, out);
+    let live = walk.world().live();
+    for process in older..live.process_count() {
+        add_birth(live, width, walk.at(), process, out);
     }
 }
 
@@ -28,16 +27,9 @@ fn add_births(walk: &Walk<'_, '_>, width: usize, older: usize, out: &mut Writer)
 fn add_move(walk: &Walk<'_, '_>, width: usize, m: &Move, out: &mut Writer) -> Result<(), AllocError>
     ensures { Stays out.old out.new }
 {
-    let picture = picture_of(walk.world());
-    let transfer = transfer_of(out.allocator(), &picture, m)?;
-    add_row(
-        &picture,
-        width,
-        walk.at().saturating_add(1),
-        m,
-        &transfer,
-        out,
-    );
+    let live = walk.world().live();
+    let transfer = transfer_of(out.allocator(), live, m)?;
+    add_row(live, width, walk.at().saturating_add(1), m, &transfer, out);
     Ok(())
 }
 

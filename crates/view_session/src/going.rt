@@ -6,7 +6,6 @@ ghost use Rattle.view_walk.specs.Walks.{SameModel};
 use crate::listed::add_no_process;
 use crate::question::add_question;
 use crate::seeking::{go_back_by, go_back_seeking, go_seeking};
-use crate::seen::picture_of;
 use crate::stopped::add_stop;
 use crate::taking::{take_by_chance, take_legs, take_next, take_of, take_run};
 use crate::told::Told;
@@ -95,7 +94,7 @@ fn cell_of(walk: &mut Walk<'_, '_>, path: &str, told: &mut Told) -> Result<Optio
     ensures stays { Stays told.old.out told.new.out }
 {
     let mut text = Writer::new(told.out.allocator());
-    match cell_named(&picture_of(walk.world()), path.as_bytes(), &mut text)? {
+    match cell_named(walk.world().live(), path.as_bytes(), &mut text)? {
         Some(cell) => Ok(Some(cell)),
         None => cell_before(walk, path.as_bytes(), &mut text),
     }
@@ -193,46 +192,66 @@ fn go_with(
     add_question(walk, told)
 }
 
-// Takes steps with one move, and asks. How many are left, where there is enough to be shown first.
-fn go_on_by(
+// Takes steps by chance, and asks.
+fn go_by_chance(
     walk: &mut Walk<'_, '_>,
     limit: usize,
     most: usize,
+    seed: u64,
     told: &mut Told,
-) -> Result<usize, AllocError>
+) -> Result<(), AllocError>
     ensures model { SameModel walk.old walk.new }
     ensures stays { Stays told.old.out told.new.out }
+{
+    take_by_chance(walk, limit, most, seed, told)?;
+    add_question(walk, told)
+}
+
+// Says that a run takes no choice, where a walk stands at one.
+fn add_no_choice(walk: &Walk<'_, '_>, told: &mut Told) -> Result<(), AllocError>
+    ensures { Stays told.old.out told.new.out }
 {
     if walk.moves()?.len() > 1 {
         told.out.add(b"run takes no choice: a number does, and random N takes N by chance\n");
     }
-    let left = take_run(walk, limit, most, told)?;
-    if left == 0 {
-        add_question(walk, told)?;
-    }
-    Ok(left)
+    Ok(())
 }
 
-// Takes steps along the walk, and asks. How many are left, where there is enough to be shown first.
-fn go_forward(
+// Takes steps with one move, and asks. What is still to be done, where there is enough to be shown first.
+fn go_on_by<'l>(
+    walk: &mut Walk<'_, '_>,
+    limit: usize,
+    most: usize,
+    told: &mut Told,
+) -> Result<Option<Command<'l>>, AllocError>
+    ensures model { SameModel walk.old walk.new }
+    ensures stays { Stays told.old.out told.new.out }
+{
+    add_no_choice(walk, told)?;
+    let left = take_run(walk, limit, most, told)?;
+    if left > 0 {
+        return Ok(Some(Command::Run(left)));
+    }
+    add_question(walk, told)?;
+    Ok(None)
+}
+
+// Takes steps along the walk, and asks. What is still to be done, where there is enough to be shown first.
+fn go_forward<'l>(
     walk: &mut Walk<'_, '_>,
     limit: usize,
     by: usize,
     told: &mut Told,
-) -> Result<usize, AllocError>
+) -> Result<Option<Command<'l>>, AllocError>
     ensures model { SameModel walk.old walk.new }
     ensures stays { Stays told.old.out told.new.out }
 {
     let left = take_next(walk, limit, by, told)?;
-    if left == 0 {
-        add_question(walk, told)?;
+    if left > 0 {
+        return Ok(Some(Command::Forward(left)));
     }
-    Ok(left)
-}
-
-// What is still to be done of a command, where anything is.
-fn further<'l>(left: usize, command: Command<'l>) -> Option<Command<'l>> {
-    if left == 0 { None } else { Some(command) }
+    add_question(walk, told)?;
+    Ok(None)
 }
 
 /// Does what leads somewhere. What is still to be done, behind what is shown first.
@@ -245,23 +264,15 @@ pub fn go<'l>(
     ensures model { SameModel walk.old walk.new }
     ensures stays { Stays told.old.out told.new.out }
 {
-    match command {
-        Command::Forward(by) => {
-            let left = go_forward(walk, limit, by, told)?;
-            return Ok(further(left, Command::Forward(left)));
-        }
-        Command::Run(most) => {
-            let left = go_on_by(walk, limit, most, told)?;
-            return Ok(further(left, Command::Run(left)));
-        }
-        Command::Process(process) => go_with(walk, limit, process, told)?,
-        Command::Until(mode, text) => go_until_by(walk, limit, mode, text, told)?,
-        Command::Random(most, seed) => {
-            take_by_chance(walk, limit, most, seed, told)?;
-            add_question(walk, told)?;
-        }
-        Command::Moves(_) => add_question(walk, told)?,
-        _ => go_back(walk, limit, command, told)?,
-    }
+    let done = match command {
+        Command::Forward(by) => return go_forward(walk, limit, by, told),
+        Command::Run(most) => return go_on_by(walk, limit, most, told),
+        Command::Process(process) => go_with(walk, limit, process, told),
+        Command::Until(mode, text) => go_until_by(walk, limit, mode, text, told),
+        Command::Random(most, seed) => go_by_chance(walk, limit, most, seed, told),
+        Command::Moves(_) => add_question(walk, told),
+        _ => go_back(walk, limit, command, told),
+    };
+    done?;
     Ok(None)
 }

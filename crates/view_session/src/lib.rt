@@ -12,7 +12,6 @@ pub mod question;
 pub mod record;
 pub mod replay;
 pub mod seeking;
-pub mod seen;
 mod showing;
 pub mod steps;
 pub mod stopped;

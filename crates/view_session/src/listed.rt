@@ -3,7 +3,6 @@
 ghost use Rattle.view_text.specs.Written.{Stays};
 ghost use Rattle.view_walk.specs.Walks.{SameModel};
 
-use crate::seen::picture_of;
 use crate::steps::{add_notes, add_step_line, move_at, texts_of};
 use crate::told::Told;
 use std::alloc::AllocError;
@@ -123,7 +122,7 @@ pub fn add_moves_of(walk: &Walk<'_, '_>, process: usize, out: &mut Writer) -> Re
     }
     let moves = walk.moves()?;
     let before = out.len();
-    add_choices_of(&picture_of(walk.world()), moves.as_slice(), process, out)?;
+    add_choices_of(walk.world().live(), moves.as_slice(), process, out)?;
     if out.len() == before {
         out.add(b"no choice is of process ");
         out.number(process);

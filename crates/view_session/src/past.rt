@@ -3,12 +3,11 @@
 ghost use Rattle.view_text.specs.Written.{Stays};
 ghost use Rattle.view_walk.specs.Walks.{SameModel};
 
-use crate::seen::picture_of;
 use crate::steps::move_at;
 use promela_process::place::Place;
 use promela_run::moves::Move;
+use run_state::live::Live;
 use std::alloc::{AllocError, Global};
-use view_cells::picture::Picture;
 use view_past::channels::add_channels;
 use view_past::round::{add_round, awaited};
 use view_past::uses::Uses;
@@ -71,7 +70,7 @@ fn add_step(walk: &mut Walk<'_, '_>, leg: Leg, history: &mut History) -> Result<
     let Some(m) = move_at(moves.as_slice(), leg.choice) else {
         return walk.go_to(step);
     };
-    history.uses.add(&picture_of(walk.world()), &m, step)?;
+    history.uses.add(walk.world().live(), &m, step)?;
     walk.go_to(step)?;
     keep_writings(walk, writer_of(&m), &mut history.writings)?;
     let processes = walk.world().process_count();
@@ -102,15 +101,15 @@ pub fn history_of(walk: &mut Walk<'_, '_>, out: &Writer) -> Result<History, Allo
 // Whom a process waits for, where it waits for one thing alone.
 fn awaited_by(
     alloc: Global,
-    picture: &Picture<'_, '_, '_>,
+    live: &Live<'_, '_>,
     process: usize,
     waits: &[Wait],
     history: &History,
 ) -> Result<Option<usize>, AllocError> {
     match waits {
-        [wait] => match awaited(picture, process, wait, &history.uses) {
+        [wait] => match awaited(live, process, wait, &history.uses) {
             Some(other) => Ok(Some(other)),
-            None => awaited_writer(alloc, picture, process, wait, &history.writings),
+            None => awaited_writer(alloc, live, process, wait, &history.writings),
         },
         _ => Ok(None),
     }
@@ -118,7 +117,7 @@ fn awaited_by(
 
 // Writes who used and who wrote last what each process waits at that takes part in none of these moves, and the round.
 fn add_uses(
-    picture: &Picture<'_, '_, '_>,
+    live: &Live<'_, '_>,
     moves: &[Move],
     history: &History,
     out: &mut Writer,
@@ -129,13 +128,13 @@ fn add_uses(
     let mut known = Vec::new(alloc);
     let mut written = Vec::new(alloc);
     let mut awaits = Vec::new(alloc);
-    for process in 0..picture.process_count() {
+    for process in 0..live.process_count() {
         let mut waits = Vec::new(alloc);
-        add_waits(picture, moves, process, &mut waits)?;
+        add_waits(live, moves, process, &mut waits)?;
         let waits = waits.as_slice();
-        add_channels(picture, waits, &history.uses, &mut known, out)?;
-        add_writers(picture, waits, &history.writings, &mut written, out)?;
-        awaits.push(awaited_by(alloc, picture, process, waits, history)?)?;
+        add_channels(live, waits, &history.uses, &mut known, out)?;
+        add_writers(live, waits, &history.writings, &mut written, out)?;
+        awaits.push(awaited_by(alloc, live, process, waits, history)?)?;
     }
     add_round(awaits.as_slice(), out);
     Ok(())
@@ -161,5 +160,5 @@ pub fn add_past(walk: &mut Walk<'_, '_>, moves: &[Move], out: &mut Writer) -> Re
         return Ok(());
     }
     let history = history_of(walk, out)?;
-    add_uses(&picture_of(walk.world()), moves, &history, out)
+    add_uses(walk.world().live(), moves, &history, out)
 }

@@ -4,12 +4,11 @@ ghost use Rattle.view_text.specs.Written.{Stays};
 ghost use Rattle.view_walk.specs.Walks.{SameModel};
 
 use crate::past::add_past;
-use crate::seen::picture_of;
 use crate::told::Told;
 use crate::watches::add_displays;
 use promela_run::moves::Move;
+use run_state::live::Live;
 use std::alloc::AllocError;
-use view_cells::picture::Picture;
 use view_state::choices::{add_choices, add_ending, ending_of};
 use view_state::why::add_blocked;
 use view_text::writer::Writer;
@@ -34,7 +33,7 @@ fn add_place(at: usize, length: usize, moves: &[Move], out: &mut Writer)
 
 // Writes the present moves, or how the run ends; and below them what the processes wait for that have none.
 fn add_list(
-    picture: &Picture<'_, '_, '_>,
+    live: &Live<'_, '_>,
     at: usize,
     moves: &[Move],
     is_all: bool,
@@ -43,13 +42,13 @@ fn add_list(
     ensures { Stays out.old out.new }
 {
     if moves.is_empty() {
-        add_ending(picture, at, out);
-        if ending_of(picture) == "valid" {
+        add_ending(live, at, out);
+        if ending_of(live) == "valid" {
             return Ok(());
         }
     }
-    add_choices(picture, moves, is_all, out)?;
-    add_blocked(picture, moves, is_all, out)
+    add_choices(live, moves, is_all, out)?;
+    add_blocked(live, moves, is_all, out)
 }
 
 /// Writes what led to the end where a walk stands that has these moves, where that is an invalid one.
@@ -61,7 +60,7 @@ pub fn add_cause(
     ensures model { SameModel walk.old walk.new }
     ensures stays { Stays out.old out.new }
 {
-    if moves.is_empty() && ending_of(&picture_of(walk.world())) == "invalid" {
+    if moves.is_empty() && ending_of(walk.world().live()) == "invalid" {
         return add_past(walk, moves, out);
     }
     Ok(())
@@ -75,7 +74,7 @@ fn ask(walk: &mut Walk<'_, '_>, is_all: bool, told: &mut Told) -> Result<(), All
     let found = walk.moves()?;
     let moves = found.as_slice();
     let at = walk.at();
-    add_list(&picture_of(walk.world()), at, moves, is_all, &mut told.out)?;
+    add_list(walk.world().live(), at, moves, is_all, &mut told.out)?;
     add_cause(walk, moves, &mut told.out)?;
     add_displays(walk.world(), &told.displays, &mut told.out);
     add_place(walk.at(), walk.legs().len(), moves, &mut told.out);

@@ -5,7 +5,6 @@ ghost use Rattle.view_text.specs.Written.{Stays};
 ghost use Rattle.view_walk.specs.Choices.{numbered};
 ghost use Rattle.view_walk.specs.Walks.{SameModel};
 
-use crate::seen::picture_of;
 use crate::told::{Told, add_same};
 use crate::values::add_values;
 use diagnostics::Fault;
@@ -58,12 +57,12 @@ fn add_changes(world: &World<'_, '_>, out: &mut Writer) -> Result<(), AllocError
 
 /// The text of a move of the state where a walk stands, and what it does with a message.
 pub fn texts_of(walk: &Walk<'_, '_>, m: &Move, alloc: Global) -> Result<MoveTexts, AllocError> {
-    let picture = picture_of(walk.world());
-    let transfer = transfer_of(alloc, &picture, m)?;
+    let live = walk.world().live();
+    let transfer = transfer_of(alloc, live, m)?;
     let mut text = Writer::new(alloc);
-    add_move(&picture, m, &mut text);
+    add_move(live, m, &mut text);
     let mut effect = Writer::new(alloc);
-    add_effect(&picture, &transfer, &mut effect);
+    add_effect(live, &transfer, &mut effect);
     Ok(MoveTexts { text, effect })
 }
 
@@ -169,9 +168,9 @@ fn add_faulted(walk: &Walk<'_, '_>, m: &Move, fault: Fault, texts: &MoveTexts, o
     ensures { Stays out.old out.new }
 {
     add_fault(fault, walk.at().saturating_add(1), &texts.text, out);
-    let picture = picture_of(walk.world());
-    add_statement_reads(&picture, m, out);
-    add_detail(detail_of(&picture, m, fault), out);
+    let live = walk.world().live();
+    add_statement_reads(live, m, out);
+    add_detail(detail_of(live, m, fault), out);
 }
 
 // Takes a move, which has this number, and writes its lines.

@@ -6,7 +6,6 @@ ghost use Rattle.view_walk.specs.Walks.{SameModel};
 
 use crate::branches::Branches;
 use crate::notes::Notes;
-use crate::seen::picture_of;
 use crate::stopped::add_break;
 use crate::watches::{Watches, first_met};
 use std::alloc::{AllocError, Global};
@@ -58,7 +57,7 @@ impl Told {
 // The state where a walk stands, as a text.
 fn whole_of(walk: &Walk<'_, '_>, alloc: Global) -> Result<Vec<u8>, AllocError> {
     let mut text = Writer::new(alloc);
-    add_whole(&picture_of(walk.world()), &mut text);
+    add_whole(walk.world().live(), &mut text);
     text.finish()
 }
 

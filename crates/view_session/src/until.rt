@@ -6,16 +6,15 @@ ghost use Rattle.promela_process.specs.Numbers.{clipped};
 ghost use Rattle.promela_process.specs.Store.{number_at};
 ghost use Rattle.view_text.specs.Written.{Stays};
 
-use crate::seen::picture_of;
 use crate::written::{Cell, cell_named, is_owned, is_written};
 use diagnostics::Fault;
 use pml_eval::clip::clip;
 use pml_program::form::Form;
 use pml_sim::world::World;
 use promela_process::place::Place;
+use run_state::live::Live;
 use std::alloc::AllocError;
 use view_cells::cells::{form_at, is_mtype, number_at};
-use view_cells::picture::Picture;
 use view_cells::processes::is_standing_line;
 use view_commands::goals::Goal;
 use view_condition::condition::StateCondition;
@@ -58,8 +57,8 @@ pub fn can_have(form: Form, number: i32) -> bool
 }
 
 // The number of an mtype's name.
-fn number_of_name(picture: &Picture<'_, '_, '_>, word: &str) -> Option<i32> {
-    let constants = picture.program().constants.as_slice();
+fn number_of_name(live: &Live<'_, '_>, word: &str) -> Option<i32> {
+    let constants = live.program().constants.as_slice();
     let mut number = 0i32;
     for constant in constants {
         number = number.saturating_add(1);
@@ -71,9 +70,9 @@ fn number_of_name(picture: &Picture<'_, '_, '_>, word: &str) -> Option<i32> {
 }
 
 // The number that a word is of a variable of this type.
-fn number_of(picture: &Picture<'_, '_, '_>, form: Form, word: &str) -> Option<i32> {
+fn number_of(live: &Live<'_, '_>, form: Form, word: &str) -> Option<i32> {
     if is_mtype(form) {
-        if let Some(number) = number_of_name(picture, word) {
+        if let Some(number) = number_of_name(live, word) {
             return Some(number);
         }
     }
@@ -89,13 +88,13 @@ fn number_of(picture: &Picture<'_, '_, '_>, form: Form, word: &str) -> Option<i3
 
 // The cell of a path and the number of a word, where a run can stop so.
 fn cell_and_number(
-    picture: &Picture<'_, '_, '_>,
+    live: &Live<'_, '_>,
     cell: Cell,
     value: &str,
     is_equal: bool,
 ) -> Result<Aim, NoAim> {
-    let form = form_at(picture, cell.place);
-    let Some(number) = number_of(picture, form, value) else {
+    let form = form_at(live, cell.place);
+    let Some(number) = number_of(live, form, value) else {
         return Err(NoAim::Value);
     };
     if !is_equal {
@@ -109,10 +108,10 @@ fn cell_and_number(
 }
 
 // Where a run is to stop that asks of a cell.
-fn aim_at<'l>(picture: &Picture<'_, '_, '_>, cell: Cell, goal: Goal<'l>) -> Result<Aim, NoAim> {
+fn aim_at<'l>(live: &Live<'_, '_>, cell: Cell, goal: Goal<'l>) -> Result<Aim, NoAim> {
     match goal {
-        Goal::Equal(_, value) => cell_and_number(picture, cell, value, true),
-        Goal::Other(_, value) => cell_and_number(picture, cell, value, false),
+        Goal::Equal(_, value) => cell_and_number(live, cell, value, true),
+        Goal::Other(_, value) => cell_and_number(live, cell, value, false),
         _ => Ok(Aim::Written(cell)),
     }
 }
@@ -125,13 +124,13 @@ pub fn aim_of<'l>(
 ) -> Result<Result<Aim, NoAim>, AllocError>
     ensures { Stays text.old text.new }
 {
-    let picture = picture_of(world);
+    let live = world.live();
     match goal {
-        Goal::Line(line) if is_standing_line(&picture, line) => Ok(Ok(Aim::Line(line))),
+        Goal::Line(line) if is_standing_line(live, line) => Ok(Ok(Aim::Line(line))),
         Goal::Line(_) => Ok(Err(NoAim::Line)),
         Goal::Equal(path, _) | Goal::Other(path, _) | Goal::Written(path) => {
-            match cell_named(&picture, path.as_bytes(), text)? {
-                Some(cell) => Ok(aim_at(&picture, cell, goal)),
+            match cell_named(live, path.as_bytes(), text)? {
+                Some(cell) => Ok(aim_at(live, cell, goal)),
                 None => Ok(Err(NoAim::Variable)),
             }
         }
@@ -139,10 +138,10 @@ pub fn aim_of<'l>(
 }
 
 // Whether a cell has a number.
-fn has_number(picture: &Picture<'_, '_, '_>, place: Place, number: i32) -> bool
-    ensures { result ≡ int_eq (number_at picture.now.frames place) number }
+fn has_number(live: &Live<'_, '_>, place: Place, number: i32) -> bool
+    ensures { result ≡ int_eq (number_at live.now.state.frames place) number }
 {
-    number_at(picture, place) == number
+    number_at(live, place) == number
 }
 
 /// Whether a state is one where a run is to stop.
@@ -161,10 +160,10 @@ fn reached_if(is_so: bool) -> GoalMet {
 }
 
 // Whether a condition holds in a state.
-fn holds(picture: &Picture<'_, '_, '_>, condition: &StateCondition) -> GoalMet {
-    match condition.worth(picture) {
+fn holds(live: &Live<'_, '_>, condition: &StateCondition) -> GoalMet {
+    match condition.worth(live) {
         Ok(worth) => reached_if(worth != 0),
-        Err(fault) => match condition.absent(picture) {
+        Err(fault) => match condition.absent(live) {
             Some(whose) => GoalMet::Absent(whose),
             None => GoalMet::Fault(fault),
         },
@@ -173,16 +172,16 @@ fn holds(picture: &Picture<'_, '_, '_>, condition: &StateCondition) -> GoalMet {
 
 /// Whether a state is one where a run is to stop.
 pub fn is_reached(world: &World<'_, '_>, aim: &Aim) -> Result<GoalMet, AllocError> {
-    let picture = picture_of(world);
+    let live = world.live();
     match aim {
-        Aim::Line(line) => Ok(reached_if(any_at(&picture, *line, picture.process_count()))),
+        Aim::Line(line) => Ok(reached_if(any_at(live, *line, live.process_count()))),
         Aim::Equal(cell, number) => Ok(reached_if(
-            is_owned(&picture, *cell) && has_number(&picture, cell.place, *number),
+            is_owned(live, *cell) && has_number(live, cell.place, *number),
         )),
         Aim::Other(cell, number) => Ok(reached_if(
-            is_owned(&picture, *cell) && !has_number(&picture, cell.place, *number),
+            is_owned(live, *cell) && !has_number(live, cell.place, *number),
         )),
         Aim::Written(cell) => Ok(reached_if(is_written(world, *cell)?)),
-        Aim::Holds(condition) => Ok(holds(&picture, condition)),
+        Aim::Holds(condition) => Ok(holds(live, condition)),
     }
 }

@@ -2,32 +2,31 @@
 
 ghost use Rattle.view_text.specs.Written.{Stays};
 
-use crate::seen::picture_of;
 use pml_sim::world::World;
 use promela_process::place::Place;
+use run_state::live::Live;
 use std::alloc::AllocError;
 use view_cells::cells::{add_value, cell_count, form_at, variable_count};
-use view_cells::picture::Picture;
 use view_past::writers::add_cell_name;
 use view_text::writer::Writer;
 
 // How many cells the first variables of a frame have, so many.
-fn cells_of(picture: &Picture<'_, '_, '_>, frame: usize, variables: usize) -> usize {
+fn cells_of(live: &Live<'_, '_>, frame: usize, variables: usize) -> usize {
     let mut count = 0usize;
     for variable in 0..variables {
-        count = count.saturating_add(cell_count(picture, frame, variable));
+        count = count.saturating_add(cell_count(live, frame, variable));
     }
     count
 }
 
 // How many cells stand before one.
-fn index_of(picture: &Picture<'_, '_, '_>, place: Place) -> usize {
+fn index_of(live: &Live<'_, '_>, place: Place) -> usize {
     let mut count = 0usize;
     for frame in 0..place.frame {
-        let all = variable_count(picture, frame);
-        count = count.saturating_add(cells_of(picture, frame, all));
+        let all = variable_count(live, frame);
+        count = count.saturating_add(cells_of(live, frame, all));
     }
-    let within = cells_of(picture, place.frame, place.variable);
+    let within = cells_of(live, place.frame, place.variable);
     count.saturating_add(within).saturating_add(place.cell)
 }
 
@@ -43,12 +42,12 @@ fn number_before(written: &[(u32, i32)], index: usize) -> Option<i32> {
 }
 
 // Writes the number that a cell had before the last step, and an arrow.
-fn add_before(picture: &Picture<'_, '_, '_>, place: Place, out: &mut Writer)
+fn add_before(live: &Live<'_, '_>, place: Place, out: &mut Writer)
     ensures { Stays out.old out.new }
 {
-    let written = picture.variables().written();
-    if let Some(number) = number_before(written, index_of(picture, place)) {
-        add_value(picture, form_at(picture, place), number, out);
+    let written = live.variables().written();
+    if let Some(number) = number_before(written, index_of(live, place)) {
+        add_value(live, form_at(live, place), number, out);
         out.add(b" -> ");
     }
 }
@@ -61,20 +60,15 @@ pub fn add_values(
 ) -> Result<(), AllocError>
     ensures { Stays out.old out.new }
 {
-    let picture = picture_of(world);
+    let live = world.live();
     let changes = world.changes()?;
     let mut is_next = is_behind;
     for change in changes.as_slice() {
         out.add(if is_next { b", " } else { b" " });
-        add_cell_name(&picture, change.place, out);
+        add_cell_name(live, change.place, out);
         out.add(b": ");
-        add_before(&picture, change.place, out);
-        add_value(
-            &picture,
-            form_at(&picture, change.place),
-            change.number,
-            out,
-        );
+        add_before(live, change.place, out);
+        add_value(live, form_at(live, change.place), change.number, out);
         is_next = true;
     }
     Ok(())

@@ -2,7 +2,6 @@
 
 ghost use Rattle.view_text.specs.Written.{Stays};
 
-use crate::seen::picture_of;
 use crate::until::{Aim, GoalMet, NoAim, aim_of, is_reached};
 use diagnostics::Fault;
 use pml_sim::world::World;
@@ -126,7 +125,7 @@ pub fn condition_of(
 ) -> Result<Option<StateCondition>, AllocError>
     ensures { Stays out.old out.new }
 {
-    match condition_in(out.allocator(), text.as_bytes(), &picture_of(world)) {
+    match condition_in(out.allocator(), text.as_bytes(), world.live()) {
         Ok(condition) => Ok(Some(condition)),
         Err(Unread::Memory) => Err(AllocError),
         Err(Unread::Refused(refused)) => {
@@ -233,7 +232,7 @@ pub fn add_fault(fault: Fault, out: &mut Writer)
 pub fn add_absent(world: &World<'_, '_>, whose: TypedProcess, out: &mut Writer)
     ensures { Stays out.old out.new }
 {
-    let proctypes = picture_of(world).program().proctypes.as_slice();
+    let proctypes = world.live().program().proctypes.as_slice();
     out.add(b"process ");
     out.number(usize::from(whose.process));
     out.add(b" is no ");

@@ -3,7 +3,6 @@
 ghost use Rattle.std.specs.Prelude.{◌<◌, vec_len, IfSome};
 ghost use Rattle.view_text.specs.Written.{Stays};
 
-use crate::seen::picture_of;
 use crate::watch::{Watch, add_absent, add_fault, meets};
 use pml_sim::world::World;
 use std::alloc::{AllocError, Global};
@@ -123,13 +122,13 @@ pub fn first_met(
 pub fn add_worth(world: &World<'_, '_>, words: &[u8], condition: &StateCondition, out: &mut Writer)
     ensures { Stays out.old out.new }
 {
-    let picture = picture_of(world);
+    let live = world.live();
     out.add(words);
-    match (condition.worth(&picture), condition.absent(&picture)) {
+    match (condition.worth(live), condition.absent(live)) {
         (Ok(number), _) => {
             out.add(b" = ");
             match condition.form() {
-                Some(form) => add_value(&picture, form, number, out),
+                Some(form) => add_value(live, form, number, out),
                 None => out.signed(number),
             }
         }

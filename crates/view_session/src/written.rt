@@ -4,13 +4,12 @@ ghost use Rattle.std.specs.Prelude.{◌≡◌, false, OnOk};
 ghost use Rattle.view_text.specs.Written.{Stays};
 ghost use Rattle.view_walk.specs.Walks.{SameModel};
 
-use crate::seen::picture_of;
 use pml_sim::world::World;
 use promela_process::place::Place;
+use run_state::live::Live;
 use run_state::seat::seat_at;
 use std::alloc::AllocError;
 use view_cells::cells::place_of;
-use view_cells::picture::Picture;
 use view_cells::processes::add_name;
 use view_text::writer::Writer;
 use view_walk::walk::Walk;
@@ -30,8 +29,8 @@ pub struct Cell {
 }
 
 // The process with a number, if it lives.
-fn owner_at(picture: &Picture<'_, '_, '_>, process: usize) -> Option<Owner> {
-    match seat_at(picture.live().seats(), process) {
+fn owner_at(live: &Live<'_, '_>, process: usize) -> Option<Owner> {
+    match seat_at(live.seats(), process) {
         Some(seat) => Some(Owner {
             process,
             sort: seat.sort,
@@ -41,16 +40,16 @@ fn owner_at(picture: &Picture<'_, '_, '_>, process: usize) -> Option<Owner> {
 }
 
 /// Whether the process of a cell still lives, or another of its proctype in its place.
-pub fn is_owned(picture: &Picture<'_, '_, '_>, cell: Cell) -> bool {
+pub fn is_owned(live: &Live<'_, '_>, cell: Cell) -> bool {
     match cell.owner {
-        Some(owner) => owner_at(picture, owner.process) == Some(owner),
+        Some(owner) => owner_at(live, owner.process) == Some(owner),
         None => true,
     }
 }
 
 // What is behind `P[2].` in a path, where that is this process.
 fn path_within<'l>(
-    picture: &Picture<'_, '_, '_>,
+    live: &Live<'_, '_>,
     process: usize,
     path: &'l [u8],
     text: &mut Writer,
@@ -58,7 +57,7 @@ fn path_within<'l>(
     ensures { Stays text.old text.new }
 {
     text.clear();
-    add_name(picture, process, text);
+    add_name(live, process, text);
     text.add(b"[");
     text.number(process);
     text.add(b"].");
@@ -77,57 +76,57 @@ fn whole(text: &Writer) -> Result<(), AllocError>
 
 // The cell of a process with a path within it.
 fn cell_within(
-    picture: &Picture<'_, '_, '_>,
+    live: &Live<'_, '_>,
     process: usize,
     within: &[u8],
     text: &mut Writer,
 ) -> Option<Cell>
     ensures { Stays text.old text.new }
 {
-    let place = place_of(picture, process.saturating_add(1), within, text)?;
+    let place = place_of(live, process.saturating_add(1), within, text)?;
     Some(Cell {
         place,
-        owner: owner_at(picture, process),
+        owner: owner_at(live, process),
     })
 }
 
 // The cell of a process with this path.
-fn found_within(picture: &Picture<'_, '_, '_>, path: &[u8], text: &mut Writer) -> Option<Cell>
+fn found_within(live: &Live<'_, '_>, path: &[u8], text: &mut Writer) -> Option<Cell>
     ensures { Stays text.old text.new }
 {
-    for process in 0..picture.process_count() {
-        if let Some(within) = path_within(picture, process, path, text) {
-            return cell_within(picture, process, within, text);
+    for process in 0..live.process_count() {
+        if let Some(within) = path_within(live, process, path, text) {
+            return cell_within(live, process, within, text);
         }
     }
     None
 }
 
-fn found(picture: &Picture<'_, '_, '_>, path: &[u8], text: &mut Writer) -> Option<Cell>
+fn found(live: &Live<'_, '_>, path: &[u8], text: &mut Writer) -> Option<Cell>
     ensures { Stays text.old text.new }
 {
-    match place_of(picture, 0, path, text) {
+    match place_of(live, 0, path, text) {
         Some(place) => Some(Cell { place, owner: None }),
-        None => found_within(picture, path, text),
+        None => found_within(live, path, text),
     }
 }
 
 /// The cell with this path, of the globals or of a process; `text` is for what is compared.
 pub fn cell_named(
-    picture: &Picture<'_, '_, '_>,
+    live: &Live<'_, '_>,
     path: &[u8],
     text: &mut Writer,
 ) -> Result<Option<Cell>, AllocError>
     ensures { Stays text.old text.new }
 {
-    let cell = found(picture, path, text);
+    let cell = found(live, path, text);
     whole(text)?;
     Ok(cell)
 }
 
 /// Whether the last step changed a cell.
 pub fn is_written(world: &World<'_, '_>, cell: Cell) -> Result<bool, AllocError> {
-    if !is_owned(&picture_of(world), cell) {
+    if !is_owned(world.live(), cell) {
         return Ok(false);
     }
     let changes = world.changes()?;
@@ -155,7 +154,7 @@ pub fn cell_before(
     for step in 0..at {
         let step = step.min(walk.legs().len());
         walk.go_to(step)?;
-        cell = found_within(&picture_of(walk.world()), path, text);
+        cell = found_within(walk.world().live(), path, text);
         whole(text)?;
         if cell.is_some() {
             break;

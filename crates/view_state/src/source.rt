@@ -2,7 +2,7 @@
 
 ghost use Rattle.view_text.specs.Written.{Stays};
 
-use view_cells::picture::Picture;
+use run_state::live::Live;
 use view_cells::processes::line_of;
 use view_text::writer::Writer;
 
@@ -10,12 +10,12 @@ use view_text::writer::Writer;
 const BEHIND_MARKS: usize = 6;
 
 // Writes the numbers of the processes that stand at a line, and its number.
-fn add_marks(picture: &Picture<'_, '_, '_>, line: u32, out: &mut Writer)
+fn add_marks(live: &Live<'_, '_>, line: u32, out: &mut Writer)
     ensures { Stays out.old out.new }
 {
     let start = out.len();
-    for process in 0..picture.process_count() {
-        if line_of(picture, process) == line {
+    for process in 0..live.process_count() {
+        if line_of(live, process) == line {
             if out.len() > start {
                 out.add(b",");
             }
@@ -31,16 +31,16 @@ fn add_marks(picture: &Picture<'_, '_, '_>, line: u32, out: &mut Writer)
 }
 
 /// Writes the text of the model.
-pub fn add_source(picture: &Picture<'_, '_, '_>, text: &[u8], out: &mut Writer)
+pub fn add_source(live: &Live<'_, '_>, text: &[u8], out: &mut Writer)
     ensures { Stays out.old out.new }
 {
     let mut line = 1u32;
-    add_marks(picture, line, out);
+    add_marks(live, line, out);
     for byte in text {
         out.add(&[*byte]);
         if *byte == b'\n' {
             line = line.saturating_add(1);
-            add_marks(picture, line, out);
+            add_marks(live, line, out);
         }
     }
     out.add(b"\n");

@@ -5,9 +5,9 @@ ghost use Rattle.view_text.specs.Written.{Stays};
 use crate::cut::{Room, add_more};
 use pml_channel::channel::Channel;
 use promela_process::place::Place;
+use run_state::live::Live;
 use view_cells::cells::{add_cell, cell_count, variable_count};
 use view_cells::channels::{add_channel, add_message, channel_at};
-use view_cells::picture::Picture;
 use view_cells::processes::{add_process, line_of};
 use view_labels::labels::add_labels;
 use view_text::filled::FilledLines;
@@ -21,7 +21,7 @@ const INDENT: usize = 30;
 
 // `PATH = VALUE` of the first cells of a variable, so many.
 fn add_variable(
-    picture: &Picture<'_, '_, '_>,
+    live: &Live<'_, '_>,
     frame: usize,
     variable: usize,
     shown: usize,
@@ -38,7 +38,7 @@ fn add_variable(
             variable,
             cell,
         };
-        add_cell(picture, place, &mut item);
+        add_cell(live, place, &mut item);
         filled.add(&item, out);
     }
 }
@@ -56,7 +56,7 @@ fn add_rest(count: usize, filled: &mut FilledLines, out: &mut Writer)
 
 // Those of each variable of a frame, as far as there is room.
 fn add_frame(
-    picture: &Picture<'_, '_, '_>,
+    live: &Live<'_, '_>,
     frame: usize,
     room: &mut Room,
     filled: &mut FilledLines,
@@ -65,26 +65,26 @@ fn add_frame(
     ensures { Stays out.old out.new }
 {
     let mut rest = 0usize;
-    for variable in 0..variable_count(picture, frame) {
-        let count = cell_count(picture, frame, variable);
+    for variable in 0..variable_count(live, frame) {
+        let count = cell_count(live, frame, variable);
         let shown = room.take(count);
-        add_variable(picture, frame, variable, shown, filled, out);
+        add_variable(live, frame, variable, shown, filled, out);
         rest = rest.saturating_add(count.saturating_sub(shown));
     }
     add_rest(rest, filled, out);
 }
 
-fn add_globals(picture: &Picture<'_, '_, '_>, room: &mut Room, out: &mut Writer)
+fn add_globals(live: &Live<'_, '_>, room: &mut Room, out: &mut Writer)
     ensures { Stays out.old out.new }
 {
     let mut filled = FilledLines::new(out.len(), 8);
     out.add(b"global");
-    add_frame(picture, 0, room, &mut filled, out);
+    add_frame(live, 0, room, &mut filled, out);
     out.add(b"\n");
 }
 
 fn add_messages(
-    picture: &Picture<'_, '_, '_>,
+    live: &Live<'_, '_>,
     channel: &Channel,
     room: &mut Room,
     filled: &mut FilledLines,
@@ -97,14 +97,14 @@ fn add_messages(
     let shown = room.take(count).min(count);
     for place in 0..shown {
         item.clear();
-        add_message(picture, channel.types(), channel.message(place), &mut item);
+        add_message(live, channel.types(), channel.message(place), &mut item);
         filled.add(&item, out);
     }
     add_rest(count - shown, filled, out);
 }
 
 fn add_contents(
-    picture: &Picture<'_, '_, '_>,
+    live: &Live<'_, '_>,
     channel: &Channel,
     start: usize,
     room: &mut Room,
@@ -120,64 +120,64 @@ fn add_contents(
     out.number(channel.len());
     out.add(b" of ");
     out.number(usize::from(channel.capacity()));
-    add_messages(picture, channel, room, &mut filled, out);
+    add_messages(live, channel, room, &mut filled, out);
 }
 
-fn add_one_channel(picture: &Picture<'_, '_, '_>, number: usize, room: &mut Room, out: &mut Writer)
+fn add_one_channel(live: &Live<'_, '_>, number: usize, room: &mut Room, out: &mut Writer)
     ensures { Stays out.old out.new }
 {
     let start = out.len();
-    add_channel(picture, number, out);
+    add_channel(live, number, out);
     out.pad(start, BEHIND_HEADING);
-    if let Some(channel) = channel_at(picture, number) {
-        add_contents(picture, channel, start, room, out);
+    if let Some(channel) = channel_at(live, number) {
+        add_contents(live, channel, start, room, out);
     }
     out.add(b"\n");
 }
 
 /// Writes `proc P (NAME)` and blanks, up to where more stands.
-pub fn add_heading(picture: &Picture<'_, '_, '_>, process: usize, out: &mut Writer)
+pub fn add_heading(live: &Live<'_, '_>, process: usize, out: &mut Writer)
     ensures { Stays out.old out.new }
 {
     let start = out.len();
-    add_process(picture, process, out);
+    add_process(live, process, out);
     out.pad(start, BEHIND_HEADING);
 }
 
 /// Writes `line L` of where a process stands, and the labels that lead there: `line 12, critical`.
-pub fn add_line(picture: &Picture<'_, '_, '_>, process: usize, out: &mut Writer)
+pub fn add_line(live: &Live<'_, '_>, process: usize, out: &mut Writer)
     ensures { Stays out.old out.new }
 {
     out.add(b"line ");
-    out.number(line_of(picture, process) as usize);
-    add_labels(picture, process, out);
+    out.number(line_of(live, process) as usize);
+    add_labels(live, process, out);
 }
 
-fn add_one_process(picture: &Picture<'_, '_, '_>, process: usize, room: &mut Room, out: &mut Writer)
+fn add_one_process(live: &Live<'_, '_>, process: usize, room: &mut Room, out: &mut Writer)
     ensures { Stays out.old out.new }
 {
     let mut filled = FilledLines::new(out.len(), INDENT);
-    add_heading(picture, process, out);
-    add_line(picture, process, out);
-    if picture.holder() == Some(process) {
+    add_heading(live, process, out);
+    add_line(live, process, out);
+    if live.holder() == Some(process) {
         out.add(b", exclusive");
     }
-    add_frame(picture, process.saturating_add(1), room, &mut filled, out);
+    add_frame(live, process.saturating_add(1), room, &mut filled, out);
     out.add(b"\n");
 }
 
 /// Writes the state: all, or the first 1000 cells and messages.
-pub fn add_state(picture: &Picture<'_, '_, '_>, is_all: bool, out: &mut Writer)
+pub fn add_state(live: &Live<'_, '_>, is_all: bool, out: &mut Writer)
     ensures { Stays out.old out.new }
 {
     let mut room = Room::new(is_all);
-    if variable_count(picture, 0) > 0 {
-        add_globals(picture, &mut room, out);
+    if variable_count(live, 0) > 0 {
+        add_globals(live, &mut room, out);
     }
-    for before in 0..picture.channel_count() {
-        add_one_channel(picture, before + 1, &mut room, out);
+    for before in 0..live.channels().len() {
+        add_one_channel(live, before + 1, &mut room, out);
     }
-    for process in 0..picture.process_count() {
-        add_one_process(picture, process, &mut room, out);
+    for process in 0..live.process_count() {
+        add_one_process(live, process, &mut room, out);
     }
 }

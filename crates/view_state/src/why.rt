@@ -6,8 +6,8 @@ use crate::counted::{count_at, counts_of};
 use crate::cut::{Room, add_more_line};
 use crate::state::{add_heading, add_line};
 use promela_run::moves::Move;
+use run_state::live::Live;
 use std::alloc::AllocError;
-use view_cells::picture::Picture;
 use view_cells::processes::{is_at_brace, line_of};
 use view_text::writer::Writer;
 use view_waits::offers::{add_offer, offer_line};
@@ -15,11 +15,11 @@ use view_waits::waits::{Wait, add_waits};
 use view_waits::words::add_words;
 
 // Writes the line of what a process could do, and, where it stands at that line, the labels that lead there.
-fn add_offer_line(picture: &Picture<'_, '_, '_>, process: usize, line: u32, out: &mut Writer)
+fn add_offer_line(live: &Live<'_, '_>, process: usize, line: u32, out: &mut Writer)
     ensures { Stays out.old out.new }
 {
-    if line == line_of(picture, process) {
-        add_line(picture, process, out);
+    if line == line_of(live, process) {
+        add_line(live, process, out);
     } else {
         out.add(b"line ");
         out.number(line as usize);
@@ -27,27 +27,27 @@ fn add_offer_line(picture: &Picture<'_, '_, '_>, process: usize, line: u32, out:
 }
 
 // Writes a line: where the process stands, what it could do there, and why it is no move.
-fn add_wait(picture: &Picture<'_, '_, '_>, process: usize, wait: &Wait, out: &mut Writer)
+fn add_wait(live: &Live<'_, '_>, process: usize, wait: &Wait, out: &mut Writer)
     ensures { Stays out.old out.new }
 {
-    add_heading(picture, process, out);
+    add_heading(live, process, out);
     match wait.pick {
         Some(pick) => {
-            add_offer_line(picture, process, offer_line(picture, pick), out);
+            add_offer_line(live, process, offer_line(live, pick), out);
             out.add(b" [");
-            add_offer(picture, pick, out);
+            add_offer(live, pick, out);
             out.add(b"]");
         }
-        None => add_line(picture, process, out),
+        None => add_line(live, process, out),
     }
     out.add(b" waits: ");
-    add_words(picture, wait, out);
+    add_words(live, wait, out);
     out.add(b"\n");
 }
 
 // Writes a line for each thing that a process without a move waits for, as far as there is room. How many are left out.
 fn add_waiting(
-    picture: &Picture<'_, '_, '_>,
+    live: &Live<'_, '_>,
     moves: &[Move],
     process: usize,
     room: &mut Room,
@@ -56,19 +56,19 @@ fn add_waiting(
     ensures { Stays out.old out.new }
 {
     let mut waits = Vec::new(out.allocator());
-    add_waits(picture, moves, process, &mut waits)?;
+    add_waits(live, moves, process, &mut waits)?;
     let count = waits.len();
     let shown = room.take(count).min(count);
     for wait in &waits.as_slice()[..shown] {
-        add_wait(picture, process, wait, out);
+        add_wait(live, process, wait, out);
     }
     Ok(count - shown)
 }
 
-fn add_can_move(picture: &Picture<'_, '_, '_>, process: usize, count: usize, out: &mut Writer)
+fn add_can_move(live: &Live<'_, '_>, process: usize, count: usize, out: &mut Writer)
     ensures { Stays out.old out.new }
 {
-    add_heading(picture, process, out);
+    add_heading(live, process, out);
     out.add(b"can move: ");
     out.number(count);
     out.add(if count == 1 {
@@ -80,7 +80,7 @@ fn add_can_move(picture: &Picture<'_, '_, '_>, process: usize, count: usize, out
 
 /// Writes for each process in how many moves it takes part, or what it waits for: all, or the first 1000 lines.
 pub fn add_why(
-    picture: &Picture<'_, '_, '_>,
+    live: &Live<'_, '_>,
     moves: &[Move],
     is_all: bool,
     out: &mut Writer,
@@ -89,14 +89,14 @@ pub fn add_why(
 {
     let mut room = Room::new(is_all);
     let mut rest = 0usize;
-    let counts = counts_of(out.allocator(), picture.process_count(), moves)?;
-    for process in 0..picture.process_count() {
+    let counts = counts_of(out.allocator(), live.process_count(), moves)?;
+    for process in 0..live.process_count() {
         let count = count_at(counts.as_slice(), process);
         if count == 0 {
-            let left = add_waiting(picture, moves, process, &mut room, out)?;
+            let left = add_waiting(live, moves, process, &mut room, out)?;
             rest = rest.saturating_add(left);
         } else {
-            add_can_move(picture, process, count, out);
+            add_can_move(live, process, count, out);
         }
     }
     add_more_line(rest, "why", out);
@@ -105,7 +105,7 @@ pub fn add_why(
 
 /// Writes a line for each thing that a process without a move waits for, of all processes but those in which nothing is left to do.
 pub fn add_blocked(
-    picture: &Picture<'_, '_, '_>,
+    live: &Live<'_, '_>,
     moves: &[Move],
     is_all: bool,
     out: &mut Writer,
@@ -114,10 +114,10 @@ pub fn add_blocked(
 {
     let mut room = Room::new(is_all);
     let mut rest = 0usize;
-    let counts = counts_of(out.allocator(), picture.process_count(), moves)?;
-    for process in 0..picture.process_count() {
-        if count_at(counts.as_slice(), process) == 0 && !is_at_brace(picture, process) {
-            let left = add_waiting(picture, moves, process, &mut room, out)?;
+    let counts = counts_of(out.allocator(), live.process_count(), moves)?;
+    for process in 0..live.process_count() {
+        if count_at(counts.as_slice(), process) == 0 && !is_at_brace(live, process) {
+            let left = add_waiting(live, moves, process, &mut room, out)?;
             rest = rest.saturating_add(left);
         }
     }

@@ -4,11 +4,11 @@ ghost use Rattle.view_text.specs.Written.{Stays};
 
 use crate::fits::text_of;
 use promela_run::moves::Pick;
+use run_state::live::Live;
 use trail_text::entry::Entry;
 use trail_text::marks::Marks;
 use trail_text::scan::parted;
 use trail_text::trail::Trail;
-use view_cells::picture::Picture;
 use view_text::writer::Writer;
 use view_waits::offers::offer_line;
 
@@ -24,13 +24,13 @@ pub enum Difference {
 }
 
 // Whether a process offers an `else`, taken or not.
-fn offers_else(picture: &Picture<'_, '_, '_>, process: usize, out: &mut Writer) -> bool
+fn offers_else(live: &Live<'_, '_>, process: usize, out: &mut Writer) -> bool
     ensures { Stays out.old out.new }
 {
     for level in 0..usize::MAX {
         for place in 0..usize::MAX {
             let text = text_of(
-                picture,
+                live,
                 Pick {
                     process,
                     level,
@@ -54,7 +54,7 @@ fn offers_else(picture: &Picture<'_, '_, '_>, process: usize, out: &mut Writer) 
 
 // The line of the assignment that a process offers first, where a label stands before the loop that it begins.
 fn labelled_of(
-    picture: &Picture<'_, '_, '_>,
+    live: &Live<'_, '_>,
     marks: &Marks,
     process: usize,
     out: &mut Writer,
@@ -66,8 +66,8 @@ fn labelled_of(
         level: 0,
         place: 0,
     };
-    let text = text_of(picture, pick, out);
-    let line = offer_line(picture, pick) as usize;
+    let text = text_of(live, pick, out);
+    let line = offer_line(live, pick) as usize;
     if marks.is_labelled(line) && parted(text.bytes(), b" = ").is_some() {
         Some(line)
     } else {
@@ -77,7 +77,7 @@ fn labelled_of(
 
 /// For which difference a line fits no move, as far as that is known.
 pub fn difference_at(
-    picture: &Picture<'_, '_, '_>,
+    live: &Live<'_, '_>,
     marks: &Marks,
     trail: &Trail<'_>,
     entry: &Entry<'_>,
@@ -85,11 +85,11 @@ pub fn difference_at(
 ) -> Option<Difference>
     ensures { Stays out.old out.new }
 {
-    if let Some(line) = labelled_of(picture, marks, entry.process, out) {
+    if let Some(line) = labelled_of(live, marks, entry.process, out) {
         return Some(Difference::LabelBeforeLoop(line));
     }
     if let Some(row) = trail.skipped_of(entry.process) {
-        if offers_else(picture, entry.process, out) {
+        if offers_else(live, entry.process, out) {
             return Some(Difference::InnerElse(row));
         }
     }

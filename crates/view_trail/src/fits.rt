@@ -6,12 +6,12 @@ ghost use Rattle.view_text.specs.Written.{Stays};
 
 use crate::inner::misses;
 use promela_run::moves::{Move, Pick};
+use run_state::live::Live;
 use trail_text::entry::{Entry, Event};
 use trail_text::loose::is_like;
 use trail_text::quiet::{is_break, is_printm};
 use trail_text::spelled::add_spelled;
 use trail_text::trail::Trail;
-use view_cells::picture::Picture;
 use view_text::writer::Writer;
 use view_waits::offers::{add_offer, offer_line};
 
@@ -27,11 +27,11 @@ const FARTHEST: usize = 10_000_000;
 const MOST_MISSES: usize = 50;
 
 /// The text of the offer that a pick names.
-pub fn text_of(picture: &Picture<'_, '_, '_>, pick: Pick, out: &mut Writer) -> Writer
+pub fn text_of(live: &Live<'_, '_>, pick: Pick, out: &mut Writer) -> Writer
     ensures { Stays out.old out.new }
 {
     let mut text = Writer::new(out.allocator());
-    add_offer(picture, pick, &mut text);
+    add_offer(live, pick, &mut text);
     out.keep_refusal(&text);
     text
 }
@@ -59,7 +59,7 @@ fn distance_of_d_step(line: usize, first: usize, misses: usize) -> usize {
 
 // How far a statement with a text, on a line that is so far, is from another text, where it fits it.
 fn distance_of_text(
-    picture: &Picture<'_, '_, '_>,
+    live: &Live<'_, '_>,
     text: &[u8],
     wanted: &[u8],
     far: usize,
@@ -79,7 +79,7 @@ fn distance_of_text(
     if spelled.bytes() == wanted.bytes() {
         return Some(far);
     }
-    let names = picture.program().constants.as_slice();
+    let names = live.program().constants.as_slice();
     if far == 0
         && (is_like(names, spelled.bytes(), wanted.bytes())
             || is_printm(spelled.bytes(), wanted.bytes()))
@@ -91,7 +91,7 @@ fn distance_of_text(
 
 // How far what a pick names is from this line of this process, where it fits it.
 fn distance_of(
-    picture: &Picture<'_, '_, '_>,
+    live: &Live<'_, '_>,
     pick: Pick,
     trail: &Trail<'_>,
     entry: &Entry<'_>,
@@ -106,18 +106,18 @@ fn distance_of(
     if pick.process != entry.process {
         return None;
     }
-    let first = offer_line(picture, pick) as usize;
-    let text = text_of(picture, pick, out);
+    let first = offer_line(live, pick) as usize;
+    let text = text_of(live, pick, out);
     if text.bytes() == b"d_step".as_slice() {
-        let misses = misses(picture, pick, trail, entry, out);
+        let misses = misses(live, pick, trail, entry, out);
         return Some(distance_of_d_step(line, first, misses));
     }
-    distance_of_text(picture, text.bytes(), wanted, line.abs_diff(first), out)
+    distance_of_text(live, text.bytes(), wanted, line.abs_diff(first), out)
 }
 
 // How far the two halves of a rendezvous are from the next two lines.
 fn distance_of_pair(
-    picture: &Picture<'_, '_, '_>,
+    live: &Live<'_, '_>,
     sender: Pick,
     receiver: Pick,
     trail: &Trail<'_>,
@@ -127,15 +127,15 @@ fn distance_of_pair(
     ensures process { IfSome result (λ n. sender.process ≡ entry.now.process) }
     ensures stays { Stays out.old out.new }
 {
-    let first = distance_of(picture, sender, trail, entry, out)?;
+    let first = distance_of(live, sender, trail, entry, out)?;
     let second = trail.second()?;
-    let behind = distance_of(picture, receiver, trail, &second, out)?;
+    let behind = distance_of(live, receiver, trail, &second, out)?;
     Some(first.saturating_add(behind))
 }
 
 /// How far a move is from the next line, where it fits it: its process is that of the line.
 pub fn distance(
-    picture: &Picture<'_, '_, '_>,
+    live: &Live<'_, '_>,
     m: &Move,
     trail: &Trail<'_>,
     entry: &Entry<'_>,
@@ -152,9 +152,9 @@ pub fn distance(
                 None
             }
         }
-        Move::Alone(pick, _) => distance_of(picture, *pick, trail, entry, out),
+        Move::Alone(pick, _) => distance_of(live, *pick, trail, entry, out),
         Move::Pair(sender, receiver, _) => {
-            distance_of_pair(picture, *sender, *receiver, trail, entry, out)
+            distance_of_pair(live, *sender, *receiver, trail, entry, out)
         }
     }
 }

@@ -4,20 +4,20 @@ ghost use Rattle.view_text.specs.Written.{Stays};
 
 use promela_run::moves::Pick;
 use run_search::picked::picked;
+use run_state::live::Live;
 use trail_text::entry::{Entry, Event};
 use trail_text::spelled::add_spelled;
 use trail_text::trail::Trail;
-use view_cells::picture::Picture;
 use view_text::writer::Writer;
 
 // So many of its lines are looked at.
 const MOST_LINES: usize = 20;
 
 // Writes the spelling of a statement that a pick names, with all that stands in it.
-fn add_whole(picture: &Picture<'_, '_, '_>, pick: Pick, out: &mut Writer)
+fn add_whole(live: &Live<'_, '_>, pick: Pick, out: &mut Writer)
     ensures { Stays out.old out.new }
 {
-    let Some(offer) = picked(picture.live(), pick) else {
+    let Some(offer) = picked(live, pick) else {
         return;
     };
     let Some(statement) = offer.body.statements.get(offer.edge.statement) else {
@@ -84,7 +84,7 @@ fn is_line_in(whole: &[u8], entry: &Entry<'_>, out: &mut Writer) -> bool
 
 /// How many of the next lines of a step are none of the d_step that a pick names.
 pub fn misses(
-    picture: &Picture<'_, '_, '_>,
+    live: &Live<'_, '_>,
     pick: Pick,
     trail: &Trail<'_>,
     entry: &Entry<'_>,
@@ -93,7 +93,7 @@ pub fn misses(
     ensures { Stays out.old out.new }
 {
     let mut whole = Writer::new(out.allocator());
-    add_whole(picture, pick, &mut whole);
+    add_whole(live, pick, &mut whole);
     out.keep_refusal(&whole);
     let mut ahead = *trail;
     let mut count = 0usize;

@@ -7,13 +7,13 @@ ghost use Rattle.view_text.specs.Written.{Stays};
 use crate::fits::{behind, distance, spelling_of, text_of};
 use crate::way::{EntryWay, Ways};
 use promela_run::moves::Move;
+use run_state::live::Live;
 use std::alloc::AllocError;
 use trail_text::entry::{Entry, Event};
 use trail_text::marks::Marks;
 use trail_text::quiet::{is_of_machine, is_of_spin};
 use trail_text::select::{Stride, counts_to, stride_of};
 use trail_text::trail::Trail;
-use view_cells::picture::Picture;
 use view_text::writer::Writer;
 
 // The ranks of ways behind those of moves that fit: a `select` that counts up, a line that is passed over, and a step that Spin may leave out.
@@ -25,7 +25,7 @@ const OF_QUIET: usize = 4_300_000_000;
 
 // Adds the moves that fit the next line.
 fn add_fits<'t>(
-    picture: &Picture<'_, '_, '_>,
+    live: &Live<'_, '_>,
     moves: &[Move],
     trail: &Trail<'t>,
     entry: &Entry<'_>,
@@ -35,7 +35,7 @@ fn add_fits<'t>(
     ensures { Stays out.old out.new }
 {
     for at in 0..moves.len() {
-        if let Some(far) = distance(picture, &moves[at], trail, entry, out) {
+        if let Some(far) = distance(live, &moves[at], trail, entry, out) {
             let trail = behind(trail, &moves[at], far);
             ways.add(
                 far,
@@ -50,18 +50,13 @@ fn add_fits<'t>(
 }
 
 // The spelling of what a process does by this move alone.
-fn spelled_of(
-    picture: &Picture<'_, '_, '_>,
-    m: &Move,
-    process: usize,
-    out: &mut Writer,
-) -> Option<Writer>
+fn spelled_of(live: &Live<'_, '_>, m: &Move, process: usize, out: &mut Writer) -> Option<Writer>
     ensures process { IfSome result (λ w. taker m.now ≡ process) }
     ensures stays { Stays out.old out.new }
 {
     match m {
         Move::Alone(pick, _) if pick.process == process => {
-            let text = text_of(picture, *pick, out);
+            let text = text_of(live, *pick, out);
             Some(spelling_of(text.bytes(), out))
         }
         _ => None,
@@ -93,7 +88,7 @@ fn behind_quiet<'t>(trail: &Trail<'t>, counts: Option<usize>) -> Option<Trail<'t
 
 // Adds steps of a `select` that come to what a line says.
 fn add_selecting<'t>(
-    picture: &Picture<'_, '_, '_>,
+    live: &Live<'_, '_>,
     moves: &[Move],
     trail: &Trail<'t>,
     entry: &Entry<'_>,
@@ -107,7 +102,7 @@ fn add_selecting<'t>(
     };
     let wanted = spelling_of(text, out);
     for at in 0..moves.len() {
-        let Some(spelled) = spelled_of(picture, &moves[at], entry.process, out) else {
+        let Some(spelled) = spelled_of(live, &moves[at], entry.process, out) else {
             continue;
         };
         let counts = counts_behind(spelled.bytes(), wanted.bytes(), trail.counts);
@@ -164,13 +159,13 @@ fn add_passing<'t>(trail: &Trail<'t>, ways: &mut Ways<'t>) -> Result<(), AllocEr
 }
 
 // Whether a process takes a step by this move that Spin may leave out.
-fn is_quiet(picture: &Picture<'_, '_, '_>, m: &Move, process: usize, out: &mut Writer) -> bool
+fn is_quiet(live: &Live<'_, '_>, m: &Move, process: usize, out: &mut Writer) -> bool
     ensures process { result ≡ true → taker m.now ≡ process }
     ensures stays { Stays out.old out.new }
 {
     match m {
         Move::Alone(pick, _) if pick.process == process => {
-            is_of_machine(text_of(picture, *pick, out).bytes())
+            is_of_machine(text_of(live, *pick, out).bytes())
         }
         _ => false,
     }
@@ -178,7 +173,7 @@ fn is_quiet(picture: &Picture<'_, '_, '_>, m: &Move, process: usize, out: &mut W
 
 // Adds the steps of a process that Spin may leave out.
 fn add_quiet<'t>(
-    picture: &Picture<'_, '_, '_>,
+    live: &Live<'_, '_>,
     moves: &[Move],
     process: usize,
     trail: &Trail<'t>,
@@ -191,7 +186,7 @@ fn add_quiet<'t>(
         return Ok(());
     };
     for at in 0..moves.len() {
-        if is_quiet(picture, &moves[at], process, out) {
+        if is_quiet(live, &moves[at], process, out) {
             ways.add(
                 OF_QUIET,
                 EntryWay {
@@ -206,7 +201,7 @@ fn add_quiet<'t>(
 
 // Adds the steps that Spin may leave out: of the process of the next line, and of the one that has exclusive control.
 fn add_unshown<'t>(
-    picture: &Picture<'_, '_, '_>,
+    live: &Live<'_, '_>,
     moves: &[Move],
     trail: &Trail<'t>,
     entry: &Entry<'_>,
@@ -215,10 +210,10 @@ fn add_unshown<'t>(
 ) -> Result<(), AllocError>
     ensures { Stays out.old out.new }
 {
-    add_quiet(picture, moves, entry.process, trail, ways, out)?;
-    match picture.holder() {
+    add_quiet(live, moves, entry.process, trail, ways, out)?;
+    match live.holder() {
         Some(holder) if holder != entry.process => {
-            add_quiet(picture, moves, holder, trail, ways, out)
+            add_quiet(live, moves, holder, trail, ways, out)
         }
         _ => Ok(()),
     }
@@ -227,7 +222,7 @@ fn add_unshown<'t>(
 /// The ways on from where a trail has a next line: each passes over it, or takes a move of its process or of the one that has exclusive
 /// control. Where memory was refused for a text that was compared, it is kept in `out`, and what is answered says nothing.
 pub fn ways_on<'t>(
-    picture: &Picture<'_, '_, '_>,
+    live: &Live<'_, '_>,
     moves: &[Move],
     marks: &Marks,
     trail: &Trail<'t>,
@@ -237,11 +232,11 @@ pub fn ways_on<'t>(
     ensures { Stays out.old out.new }
 {
     let mut ways = Ways::new(out.allocator());
-    add_fits(picture, moves, trail, entry, &mut ways, out)?;
-    add_selecting(picture, moves, trail, entry, &mut ways, out)?;
+    add_fits(live, moves, trail, entry, &mut ways, out)?;
+    add_selecting(live, moves, trail, entry, &mut ways, out)?;
     if is_shown_alone(marks, entry, out) {
         add_passing(trail, &mut ways)?;
     }
-    add_unshown(picture, moves, trail, entry, &mut ways, out)?;
+    add_unshown(live, moves, trail, entry, &mut ways, out)?;
     Ok(ways)
 }

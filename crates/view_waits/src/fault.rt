@@ -5,6 +5,7 @@ ghost use Rattle.promela_process.specs.Expressions.{val};
 ghost use Rattle.pml_value.specs.Seen.{seen};
 ghost use Rattle.view_text.specs.Written.{Stays};
 
+use crate::offers::offered;
 use diagnostics::Fault;
 use pml_eval::eval::{eval, place};
 use pml_eval::ground::Ground;
@@ -12,8 +13,7 @@ use pml_program::expr::{Expr, Target, Turn, Want};
 use pml_program::program::{Action, Basic};
 use pml_value::view::{View, named};
 use promela_run::moves::{Move, Pick};
-use run_search::picked::picked;
-use view_cells::picture::Picture;
+use run_state::live::Live;
 use view_text::writer::Writer;
 
 /// What a fault was about.
@@ -155,7 +155,7 @@ fn of_place(target: Option<&Target>, view: &View<'_>, fault: Fault) -> Option<De
 }
 
 // Of a statement, in the order in which it is evaluated.
-fn of_action(action: &Action<'_>, view: &View<'_>, fault: Fault) -> Option<Detail> {
+fn of_action<'w>(action: &'w Action<'w>, view: &View<'_>, fault: Fault) -> Option<Detail> {
     match action {
         Action::Else => None,
         Action::Assign(target, e) => {
@@ -182,31 +182,22 @@ fn of_action(action: &Action<'_>, view: &View<'_>, fault: Fault) -> Option<Detai
     }
 }
 
-fn of_pick(
-    picture: &Picture<'_, '_, '_>,
-    pick: Pick,
-    timeout: bool,
-    fault: Fault,
-) -> Option<Detail> {
-    if pick.process >= picture.process_count() {
-        return None;
-    }
-    let view = picture.live().view(pick.process, timeout);
-    let offer = picked(picture.live(), pick)?;
-    match offer.body.basic(*offer.edge) {
+fn of_pick(live: &Live<'_, '_>, pick: Pick, timeout: bool, fault: Fault) -> Option<Detail> {
+    let (view, basic) = offered(live, pick, timeout)?;
+    match basic {
         Some(Basic::Plain(action)) => of_action(action, &view, fault),
         _ => None,
     }
 }
 
 /// What the fault of a move was about: of a pair first of its sender. Of what stands within a d_step nothing is told.
-pub fn detail_of(picture: &Picture<'_, '_, '_>, m: &Move, fault: Fault) -> Option<Detail> {
+pub fn detail_of(live: &Live<'_, '_>, m: &Move, fault: Fault) -> Option<Detail> {
     match m {
         Move::Death(_) => None,
-        Move::Alone(pick, timeout) => of_pick(picture, *pick, *timeout, fault),
+        Move::Alone(pick, timeout) => of_pick(live, *pick, *timeout, fault),
         Move::Pair(sender, receiver, timeout) => {
-            let found = of_pick(picture, *sender, *timeout, fault);
-            found.or(of_pick(picture, *receiver, *timeout, fault))
+            let found = of_pick(live, *sender, *timeout, fault);
+            found.or(of_pick(live, *receiver, *timeout, fault))
         }
     }
 }

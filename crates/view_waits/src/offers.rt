@@ -4,10 +4,11 @@ ghost use Rattle.std.specs.Prelude.{◌≡◌};
 ghost use Rattle.view_text.specs.Written.{Adds};
 ghost use Rattle.view_waits.specs.Offers.{behind, bare, offered_line, offered_text};
 
+use pml_program::program::Basic;
+use pml_value::view::View;
 use promela_run::moves::Pick;
 use run_search::picked::picked;
 use run_state::live::Live;
-use view_cells::picture::Picture;
 use view_text::writer::Writer;
 
 // What stands behind the first `[`.
@@ -33,15 +34,6 @@ fn bare(text: &[u8]) -> &[u8]
     &rest[..rest.len() - 1]
 }
 
-fn line_in_live(live: &Live<'_, '_>, pick: Pick) -> u32
-    ensures { result ≡ offered_line live.now.state pick }
-{
-    match picked(live, pick) {
-        Some(offer) => offer.body.graph.offer_line(offer.edge.statement),
-        None => 0,
-    }
-}
-
 fn text_in_live<'p>(live: &Live<'p, '_>, pick: Pick) -> &'p [u8]
     ensures { result.now ≡ offered_text live.now.state pick }
 {
@@ -51,16 +43,33 @@ fn text_in_live<'p>(live: &Live<'p, '_>, pick: Pick) -> &'p [u8]
     }
 }
 
+/// What the process of a pick reads, and the statement of the offer that the pick names, if it names one.
+pub(crate) fn offered<'w, 'p, 'a>(
+    live: &'w Live<'p, 'a>,
+    pick: Pick,
+    timeout: bool,
+) -> Option<(View<'w>, Option<&'p Basic<'a>>)> {
+    if pick.process >= live.process_count() {
+        return None;
+    }
+    let offer = picked(live, pick)?;
+    let basic = offer.body.basic(*offer.edge);
+    Some((live.view(pick.process, timeout), basic))
+}
+
 /// The line of the offer that a pick names.
-pub fn offer_line(picture: &Picture<'_, '_, '_>, pick: Pick) -> u32
-    ensures { result ≡ offered_line picture.now pick }
+pub fn offer_line(live: &Live<'_, '_>, pick: Pick) -> u32
+    ensures { result ≡ offered_line live.now.state pick }
 {
-    line_in_live(picture.live(), pick)
+    match picked(live, pick) {
+        Some(offer) => offer.body.graph.offer_line(offer.edge.statement),
+        None => 0,
+    }
 }
 
 /// Writes the text of the offer that a pick names, without its line and its brackets.
-pub fn add_offer(picture: &Picture<'_, '_, '_>, pick: Pick, out: &mut Writer)
-    ensures { Adds out.old out.new (offered_text picture.now pick) }
+pub fn add_offer(live: &Live<'_, '_>, pick: Pick, out: &mut Writer)
+    ensures { Adds out.old out.new (offered_text live.now.state pick) }
 {
-    out.add(text_in_live(picture.live(), pick));
+    out.add(text_in_live(live, pick));
 }

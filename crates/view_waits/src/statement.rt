@@ -2,14 +2,14 @@
 
 ghost use Rattle.view_text.specs.Written.{Stays};
 
+use crate::offers::offered;
 use crate::reads::{Reads, add_indices, add_reads, add_target};
 use crate::words::add_all;
 use pml_program::expr::{Expr, Want};
 use pml_program::program::{Action, Basic, Run};
 use pml_value::view::View;
 use promela_run::moves::{Move, Pick};
-use run_search::picked::picked;
-use view_cells::picture::Picture;
+use run_state::live::Live;
 use view_text::writer::Writer;
 
 fn add_list(list: &[Expr], view: &View<'_>, reads: &mut Reads) {
@@ -33,7 +33,7 @@ fn add_run(run: &Run, view: &View<'_>, reads: &mut Reads) {
 }
 
 // Adds what a statement reads, and the variables that it would change.
-fn add_action(action: &Action<'_>, view: &View<'_>, reads: &mut Reads) {
+fn add_action<'w>(action: &'w Action<'w>, view: &View<'_>, reads: &mut Reads) {
     match action {
         Action::Else => {}
         Action::Assign(target, e) => {
@@ -57,12 +57,7 @@ fn add_action(action: &Action<'_>, view: &View<'_>, reads: &mut Reads) {
     }
 }
 
-fn add_basic(
-    picture: &Picture<'_, '_, '_>,
-    view: &View<'_>,
-    basic: Option<&Basic<'_>>,
-    out: &mut Writer,
-)
+fn add_basic(live: &Live<'_, '_>, view: &View<'_>, basic: Option<&Basic<'_>>, out: &mut Writer)
     ensures { Stays out.old out.new }
 {
     let Some(Basic::Plain(action)) = basic else {
@@ -73,30 +68,26 @@ fn add_basic(
     out.keep(reads.answer());
     if !reads.items().is_empty() {
         out.add(b"  reads");
-        add_all(picture, view, &reads, out);
+        add_all(live, view, &reads, out);
         out.add(b"\n");
     }
 }
 
-fn add_pick(picture: &Picture<'_, '_, '_>, pick: Pick, timeout: bool, out: &mut Writer)
+fn add_pick(live: &Live<'_, '_>, pick: Pick, timeout: bool, out: &mut Writer)
     ensures { Stays out.old out.new }
 {
-    if pick.process >= picture.process_count() {
-        return;
-    }
-    let view = picture.live().view(pick.process, timeout);
-    if let Some(offer) = picked(picture.live(), pick) {
-        add_basic(picture, &view, offer.body.basic(*offer.edge), out);
+    if let Some((view, basic)) = offered(live, pick, timeout) {
+        add_basic(live, &view, basic, out);
     }
 }
 
 /// Writes a line with what the statement of a move reads: `  reads: x = 0, a[1] = 3`; none, where it reads nothing.
-pub fn add_statement_reads(picture: &Picture<'_, '_, '_>, m: &Move, out: &mut Writer)
+pub fn add_statement_reads(live: &Live<'_, '_>, m: &Move, out: &mut Writer)
     ensures { Stays out.old out.new }
 {
     match m {
         Move::Death(_) => {}
-        Move::Alone(pick, timeout) => add_pick(picture, *pick, *timeout, out),
-        Move::Pair(sender, _, timeout) => add_pick(picture, *sender, *timeout, out),
+        Move::Alone(pick, timeout) => add_pick(live, *pick, *timeout, out),
+        Move::Pair(sender, _, timeout) => add_pick(live, *sender, *timeout, out),
     }
 }

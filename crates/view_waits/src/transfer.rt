@@ -1,5 +1,6 @@
 //! What a move does with a message, known before it is taken.
 
+use crate::offers::offered;
 use pml_channel::channel::Channel;
 use pml_eval::clip::clip;
 use pml_eval::eval::{eval, pattern};
@@ -12,10 +13,8 @@ use profile::MOST_FIELDS;
 use promela_process::sought::Sought;
 use promela_run::moves::{Move, Pick};
 use run_search::executable::named;
-use run_search::picked::picked;
 use run_state::live::Live;
 use std::alloc::{AllocError, Global};
-use view_cells::picture::Picture;
 
 /// What a move does.
 #[derive(Clone, Copy, Debug, PartialEq, Eq)]
@@ -180,25 +179,17 @@ fn of_pick(
     pick: Pick,
     timeout: bool,
 ) -> Result<Transfer, AllocError> {
-    if pick.process >= live.process_count() {
-        return Ok(plain(alloc, Does::Statement));
-    }
-    let view = live.view(pick.process, timeout);
-    match picked(live, pick) {
-        Some(offer) => of_basic(alloc, &view, offer.body.basic(*offer.edge)),
+    match offered(live, pick, timeout) {
+        Some((view, basic)) => of_basic(alloc, &view, basic),
         None => Ok(plain(alloc, Does::Statement)),
     }
 }
 
 /// What a move of the present state does.
-pub fn transfer_of(
-    alloc: Global,
-    picture: &Picture<'_, '_, '_>,
-    m: &Move,
-) -> Result<Transfer, AllocError> {
+pub fn transfer_of(alloc: Global, live: &Live<'_, '_>, m: &Move) -> Result<Transfer, AllocError> {
     match m {
         Move::Death(_) => Ok(plain(alloc, Does::End)),
-        Move::Alone(pick, timeout) => of_pick(alloc, picture.live(), *pick, *timeout),
-        Move::Pair(sender, _, timeout) => of_pick(alloc, picture.live(), *sender, *timeout),
+        Move::Alone(pick, timeout) => of_pick(alloc, live, *pick, *timeout),
+        Move::Pair(sender, _, timeout) => of_pick(alloc, live, *sender, *timeout),
     }
 }

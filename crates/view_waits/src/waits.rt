@@ -18,7 +18,6 @@ use run_state::body::Body;
 use run_state::live::Live;
 use run_state::seat::Seat;
 use std::alloc::AllocError;
-use view_cells::picture::Picture;
 use view_cells::processes::line_of;
 
 /// What a process waits for: an offer, or, without one, its death or its turn.
@@ -227,27 +226,27 @@ fn add_here(
 
 /// Adds what a process waits for, where these are the present moves: nothing, where it takes part in one.
 pub fn add_waits(
-    picture: &Picture<'_, '_, '_>,
+    live: &Live<'_, '_>,
     moves: &[Move],
     process: usize,
     waits: &mut Vec<Wait>,
 ) -> Result<(), AllocError>
-    ensures { moves.now ≡ all_moves picture.now → OnOk result (waits.new.items ≡ waits.old.items ++ all_waits picture.now process) }
+    ensures { moves.now ≡ all_moves live.now.state → OnOk result (waits.new.items ≡ waits.old.items ++ all_waits live.now.state process) }
 {
     if is_in(process, moves) {
         return Ok(());
     }
-    match in_control(picture.holder(), moves) {
+    match in_control(live.holder(), moves) {
         Some(holder) => put(Because::Held(holder), waits),
-        None => add_here(picture.live(), process, timeout_of(moves), waits),
+        None => add_here(live, process, timeout_of(moves), waits),
     }
 }
 
 /// The line in the text of a move; of a death that of the closing brace.
-pub fn origin_line(picture: &Picture<'_, '_, '_>, m: &Move) -> u32 {
+pub fn origin_line(live: &Live<'_, '_>, m: &Move) -> u32 {
     match m {
-        Move::Death(process) => line_of(picture, *process),
-        Move::Alone(pick, _) => offer_line(picture, *pick),
-        Move::Pair(sender, _, _) => offer_line(picture, *sender),
+        Move::Death(process) => line_of(live, *process),
+        Move::Alone(pick, _) => offer_line(live, *pick),
+        Move::Pair(sender, _, _) => offer_line(live, *sender),
     }
 }

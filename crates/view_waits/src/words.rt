@@ -3,6 +3,7 @@
 ghost use Rattle.view_text.specs.Written.{Stays};
 
 use crate::because::Because;
+use crate::offers::offered;
 use crate::reads::{ReadValue, Reads, add_reads};
 use crate::waits::Wait;
 use pml_channel::channel::Channel;
@@ -16,10 +17,9 @@ use pml_value::view::View;
 use promela_process::sought::Sought;
 use promela_run::moves::Pick;
 use run_search::executable::named;
-use run_search::picked::picked;
+use run_state::live::Live;
 use view_cells::cells::{add_cell, add_value};
 use view_cells::channels::{add_channel_word, add_message, channel_at};
-use view_cells::picture::Picture;
 use view_cells::processes::add_process;
 use view_text::writer::Writer;
 
@@ -28,25 +28,25 @@ fn number_of(number: i32) -> usize {
 }
 
 // Writes `len(NAME) = N`.
-fn add_length(picture: &Picture<'_, '_, '_>, number: i32, out: &mut Writer)
+fn add_length(live: &Live<'_, '_>, number: i32, out: &mut Writer)
     ensures { Stays out.old out.new }
 {
     out.add(b"len(");
     if number > 0 {
-        add_channel_word(picture, number_of(number), out);
+        add_channel_word(live, number_of(number), out);
     }
     out.add(b") = ");
-    if let Some(channel) = channel_at(picture, number_of(number)) {
+    if let Some(channel) = channel_at(live, number_of(number)) {
         out.number(channel.len());
     }
 }
 
 /// Writes what is read, with its value: `x = 1`.
-pub fn add_read(picture: &Picture<'_, '_, '_>, view: &View<'_>, read: ReadValue, out: &mut Writer)
+pub fn add_read(live: &Live<'_, '_>, view: &View<'_>, read: ReadValue, out: &mut Writer)
     ensures { Stays out.old out.new }
 {
     match read {
-        ReadValue::Cell(place) => add_cell(picture, place, out),
+        ReadValue::Cell(place) => add_cell(live, place, out),
         ReadValue::Pid => {
             out.add(b"_pid = ");
             out.number(usize::from(view.pid));
@@ -60,30 +60,30 @@ pub fn add_read(picture: &Picture<'_, '_, '_>, view: &View<'_>, read: ReadValue,
         } else {
             b"timeout = 0"
         }),
-        ReadValue::Length(number) => add_length(picture, number, out),
+        ReadValue::Length(number) => add_length(live, number, out),
     }
 }
 
 /// Writes what is read, one behind another.
-pub fn add_all(picture: &Picture<'_, '_, '_>, view: &View<'_>, reads: &Reads, out: &mut Writer)
+pub fn add_all(live: &Live<'_, '_>, view: &View<'_>, reads: &Reads, out: &mut Writer)
     ensures { Stays out.old out.new }
 {
     let mut is_first = true;
     for read in reads.items() {
         out.add(if is_first { b": " } else { b", " });
         is_first = false;
-        add_read(picture, view, *read, out);
+        add_read(live, view, *read, out);
     }
     out.keep(reads.answer());
 }
 
-fn add_false(picture: &Picture<'_, '_, '_>, view: &View<'_>, e: &Expr, out: &mut Writer)
+fn add_false(live: &Live<'_, '_>, view: &View<'_>, e: &Expr, out: &mut Writer)
     ensures { Stays out.old out.new }
 {
     out.add(b"false");
     let mut reads = Reads::new(out.allocator());
     add_reads(e, view, &mut reads);
-    add_all(picture, view, &reads, out);
+    add_all(live, view, &reads, out);
 }
 
 fn form_of(types: &[Form], at: usize) -> Form {
@@ -94,24 +94,18 @@ fn form_of(types: &[Form], at: usize) -> Form {
 }
 
 // Writes what a receive asks of a field.
-fn add_want(
-    picture: &Picture<'_, '_, '_>,
-    view: &View<'_>,
-    form: Form,
-    wanted: &Want,
-    out: &mut Writer,
-)
+fn add_want(live: &Live<'_, '_>, view: &View<'_>, form: Form, wanted: &Want, out: &mut Writer)
     ensures { Stays out.old out.new }
 {
     match want(wanted, view) {
-        Ok(Sought::Exactly(number)) => add_value(picture, form, number, out),
+        Ok(Sought::Exactly(number)) => add_value(live, form, number, out),
         _ => out.add(b"_"),
     }
 }
 
 // Writes what a receive asks of the fields: `(ping, _)`.
 fn add_wanted(
-    picture: &Picture<'_, '_, '_>,
+    live: &Live<'_, '_>,
     view: &View<'_>,
     types: &[Form],
     wants: &[Want],
@@ -124,34 +118,22 @@ fn add_wanted(
         if i > 0 {
             out.add(b", ");
         }
-        add_want(picture, view, form_of(types, i), &wants[i], out);
+        add_want(live, view, form_of(types, i), &wants[i], out);
     }
     out.add(b")");
 }
 
-fn add_field(
-    picture: &Picture<'_, '_, '_>,
-    view: &View<'_>,
-    form: Form,
-    field: &Expr,
-    out: &mut Writer,
-)
+fn add_field(live: &Live<'_, '_>, view: &View<'_>, form: Form, field: &Expr, out: &mut Writer)
     ensures { Stays out.old out.new }
 {
     match eval(field, view) {
-        Ok(number) => add_value(picture, form, clip(form, number), out),
+        Ok(number) => add_value(live, form, clip(form, number), out),
         Err(_) => out.add(b"?"),
     }
 }
 
 // Writes what a send would send: `(ping, 1)`.
-fn add_sent(
-    picture: &Picture<'_, '_, '_>,
-    view: &View<'_>,
-    types: &[Form],
-    fields: &[Expr],
-    out: &mut Writer,
-)
+fn add_sent(live: &Live<'_, '_>, view: &View<'_>, types: &[Form], fields: &[Expr], out: &mut Writer)
     ensures { Stays out.old out.new }
 {
     out.add(b"(");
@@ -159,31 +141,26 @@ fn add_sent(
         if i > 0 {
             out.add(b", ");
         }
-        add_field(picture, view, form_of(types, i), &fields[i], out);
+        add_field(live, view, form_of(types, i), &fields[i], out);
     }
     out.add(b")");
 }
 
 // Writes which message stands in the way of a receive.
-fn add_other_message(
-    picture: &Picture<'_, '_, '_>,
-    channel: &Channel,
-    name: &[u8],
-    out: &mut Writer,
-)
+fn add_other_message(live: &Live<'_, '_>, channel: &Channel, name: &[u8], out: &mut Writer)
     ensures { Stays out.old out.new }
 {
     out.add(b"the oldest message of ");
     out.add(name);
     out.add(b" is ");
     if channel.len() > 0 {
-        add_message(picture, channel.types(), channel.message(0), out);
+        add_message(live, channel.types(), channel.message(0), out);
     }
     out.add(b", not ");
 }
 
 fn add_receive_from(
-    picture: &Picture<'_, '_, '_>,
+    live: &Live<'_, '_>,
     view: &View<'_>,
     named: (&[u8], &Channel),
     search: Search,
@@ -195,7 +172,7 @@ fn add_receive_from(
     let (name, channel) = named;
     if channel.capacity() == 0 {
         out.add(b"no process sends ");
-        add_wanted(picture, view, channel.types(), wants, out);
+        add_wanted(live, view, channel.types(), wants, out);
         out.add(b" to ");
         out.add(name);
         return;
@@ -206,18 +183,18 @@ fn add_receive_from(
         return;
     }
     match search {
-        Search::First => add_other_message(picture, channel, name, out),
+        Search::First => add_other_message(live, channel, name, out),
         Search::Matching => {
             out.add(b"no message of ");
             out.add(name);
             out.add(b" is ");
         }
     }
-    add_wanted(picture, view, channel.types(), wants, out);
+    add_wanted(live, view, channel.types(), wants, out);
 }
 
 fn add_send_to(
-    picture: &Picture<'_, '_, '_>,
+    live: &Live<'_, '_>,
     view: &View<'_>,
     named: (&[u8], &Channel),
     fields: &[Expr],
@@ -228,7 +205,7 @@ fn add_send_to(
     let (name, channel) = named;
     if channel.capacity() == 0 {
         out.add(b"no process receives ");
-        add_sent(picture, view, channel.types(), fields, out);
+        add_sent(live, view, channel.types(), fields, out);
         out.add(b" from ");
         out.add(name);
     } else {
@@ -239,14 +216,14 @@ fn add_send_to(
 
 const IN_ESCAPE: &[u8] = b"a statement of an escape can be taken";
 
-fn name_of(picture: &Picture<'_, '_, '_>, number: i32, out: &Writer) -> Writer {
+fn name_of(live: &Live<'_, '_>, number: i32, out: &Writer) -> Writer {
     let mut name = Writer::new(out.allocator());
-    add_channel_word(picture, number_of(number), &mut name);
+    add_channel_word(live, number_of(number), &mut name);
     name
 }
 
 fn add_receive(
-    picture: &Picture<'_, '_, '_>,
+    live: &Live<'_, '_>,
     view: &View<'_>,
     target: &Target,
     search: Search,
@@ -257,8 +234,8 @@ fn add_receive(
 {
     match named(view, target, wants.len()) {
         Ok((number, channel)) => {
-            let name = name_of(picture, number, out);
-            add_receive_from(picture, view, (name.bytes(), channel), search, wants, out);
+            let name = name_of(live, number, out);
+            add_receive_from(live, view, (name.bytes(), channel), search, wants, out);
             out.keep_refusal(&name);
         }
         Err(_) => out.add(IN_ESCAPE),
@@ -266,7 +243,7 @@ fn add_receive(
 }
 
 fn add_send(
-    picture: &Picture<'_, '_, '_>,
+    live: &Live<'_, '_>,
     view: &View<'_>,
     target: &Target,
     fields: &[Expr],
@@ -276,71 +253,62 @@ fn add_send(
 {
     match named(view, target, fields.len()) {
         Ok((number, channel)) => {
-            let name = name_of(picture, number, out);
-            add_send_to(picture, view, (name.bytes(), channel), fields, out);
+            let name = name_of(live, number, out);
+            add_send_to(live, view, (name.bytes(), channel), fields, out);
             out.keep_refusal(&name);
         }
         Err(_) => out.add(IN_ESCAPE),
     }
 }
 
-fn add_action(picture: &Picture<'_, '_, '_>, view: &View<'_>, action: &Action<'_>, out: &mut Writer)
+fn add_action(live: &Live<'_, '_>, view: &View<'_>, action: &Action<'_>, out: &mut Writer)
     ensures { Stays out.old out.new }
 {
     match action {
         Action::Else => out.add(b"another statement can be taken"),
-        Action::Holds(e) => add_false(picture, view, e, out),
+        Action::Holds(e) => add_false(live, view, e, out),
         Action::Run(_) => out.add(b"255 processes are alive"),
-        Action::Send(target, _, fields) => add_send(picture, view, target, fields.as_slice(), out),
+        Action::Send(target, _, fields) => add_send(live, view, target, fields.as_slice(), out),
         Action::Receive(target, search, _, wants) => {
-            add_receive(picture, view, target, *search, wants.as_slice(), out)
+            add_receive(live, view, target, *search, wants.as_slice(), out)
         }
         _ => out.add(IN_ESCAPE),
     }
 }
 
-fn add_basic(
-    picture: &Picture<'_, '_, '_>,
-    view: &View<'_>,
-    basic: Option<&Basic<'_>>,
-    out: &mut Writer,
-)
+fn add_basic(live: &Live<'_, '_>, view: &View<'_>, basic: Option<&Basic<'_>>, out: &mut Writer)
     ensures { Stays out.old out.new }
 {
     match basic {
-        Some(Basic::Plain(action)) => add_action(picture, view, action, out),
+        Some(Basic::Plain(action)) => add_action(live, view, action, out),
         Some(Basic::DStep(_)) => out.add(b"nothing can be taken first in it"),
         _ => out.add(IN_ESCAPE),
     }
 }
 
-fn add_pick(picture: &Picture<'_, '_, '_>, pick: Pick, timeout: bool, out: &mut Writer)
+fn add_pick(live: &Live<'_, '_>, pick: Pick, timeout: bool, out: &mut Writer)
     ensures { Stays out.old out.new }
 {
-    if pick.process >= picture.process_count() {
-        return;
-    }
-    let view = picture.live().view(pick.process, timeout);
-    if let Some(offer) = picked(picture.live(), pick) {
-        add_basic(picture, &view, offer.body.basic(*offer.edge), out);
+    if let Some((view, basic)) = offered(live, pick, timeout) {
+        add_basic(live, &view, basic, out);
     }
 }
 
 /// Writes why, with what it reads.
-pub fn add_words(picture: &Picture<'_, '_, '_>, wait: &Wait, out: &mut Writer)
+pub fn add_words(live: &Live<'_, '_>, wait: &Wait, out: &mut Writer)
     ensures { Stays out.old out.new }
 {
     match (wait.because, wait.pick) {
         (Because::Held(holder), _) => {
-            add_process(picture, holder, out);
+            add_process(live, holder, out);
             out.add(b" has exclusive control");
         }
         (Because::Younger(youngest), _) => {
             out.add(b"it can end when ");
-            add_process(picture, youngest, out);
+            add_process(live, youngest, out);
             out.add(b" has ended");
         }
-        (_, Some(pick)) => add_pick(picture, pick, wait.timeout, out),
+        (_, Some(pick)) => add_pick(live, pick, wait.timeout, out),
         _ => {}
     }
 }

@@ -6,10 +6,10 @@ use explain_tokens::placed;
 use pml_lex::fault::LexError;
 use pml_program::program::Proctype;
 use pml_token::token::{Kind, Token};
+use run_state::live::Live;
 use run_values::change::proctype_name;
 use source_lines::position::between;
 use std::alloc::{AllocError, Global};
-use view_cells::picture::Picture;
 use view_cells::processes::proctype_of;
 use view_condition::condition::{StateCondition, condition_in};
 use view_condition::unread::Unread;
@@ -25,7 +25,7 @@ fn is_variable(proctype: &Proctype<'_>, name: &[u8]) -> bool {
 }
 
 // Whether a token names a variable of a process: a name behind a dot is that of a field.
-fn is_own(tokens: &[Token<'_>], at: usize, proctype: Option<&Proctype<'_>>) -> bool {
+fn is_own<'w>(tokens: &'w [Token<'w>], at: usize, proctype: Option<&'w Proctype<'_>>) -> bool {
     let Some(proctype) = proctype else {
         return false;
     };
@@ -102,7 +102,7 @@ fn text_read_by(alloc: Global, reader: Reader<'_, '_>, text: &[u8]) -> Result<Ve
 
 // The condition that a text is where a process reads it; or why it is none, which is written.
 fn read_by(
-    picture: &Picture<'_, '_, '_>,
+    live: &Live<'_, '_>,
     reader: Reader<'_, '_>,
     text: &[u8],
     out: &mut Writer,
@@ -110,7 +110,7 @@ fn read_by(
     ensures { Stays out.old out.new }
 {
     let whole = text_read_by(out.allocator(), reader, text)?;
-    match condition_in(out.allocator(), whole.as_slice(), picture) {
+    match condition_in(out.allocator(), whole.as_slice(), live) {
         Ok(condition) => Ok(Some(condition)),
         Err(Unread::Memory) => Err(AllocError),
         Err(Unread::Refused(refused)) => {
@@ -122,7 +122,7 @@ fn read_by(
 
 /// The condition that a text is in the scope of a process; or why it is none, which is written.
 pub fn condition_of(
-    picture: &Picture<'_, '_, '_>,
+    live: &Live<'_, '_>,
     process: usize,
     text: &[u8],
     out: &mut Writer,
@@ -131,14 +131,14 @@ pub fn condition_of(
 {
     let reader = Reader {
         process,
-        proctype: proctype_of(picture, process),
+        proctype: proctype_of(live, process),
     };
-    read_by(picture, reader, text, out)
+    read_by(live, reader, text, out)
 }
 
 // Whether a process of a proctype can stand at a line.
-fn has_line(picture: &Picture<'_, '_, '_>, sort: usize, line: u32) -> bool {
-    let Some(body) = picture.live().body(sort) else {
+fn has_line(live: &Live<'_, '_>, sort: usize, line: u32) -> bool {
+    let Some(body) = live.body(sort) else {
         return false;
     };
     for node in 0..body.graph.node_count() {
@@ -151,20 +151,20 @@ fn has_line(picture: &Picture<'_, '_, '_>, sort: usize, line: u32) -> bool {
 
 /// Whether a text is a condition for each process that can stand at a line; or why it is none, which is written.
 pub fn condition_in_proctype(
-    picture: &Picture<'_, '_, '_>,
+    live: &Live<'_, '_>,
     line: u32,
     text: &[u8],
     out: &mut Writer,
 ) -> Result<bool, AllocError>
     ensures { Stays out.old out.new }
 {
-    for sort in 0..picture.program().proctypes.len() {
-        if has_line(picture, sort, line) {
+    for sort in 0..live.program().proctypes.len() {
+        if has_line(live, sort, line) {
             let reader = Reader {
                 process: 0,
-                proctype: picture.program().proctypes.as_slice().get(sort),
+                proctype: live.program().proctypes.as_slice().get(sort),
             };
-            if read_by(picture, reader, text, out)?.is_none() {
+            if read_by(live, reader, text, out)?.is_none() {
                 return Ok(false);
             }
         }

@@ -11,7 +11,6 @@ use view_condition::condition::StateCondition;
 use view_json::lines::add_start;
 use view_run::lines::{Sheet, add_next};
 use view_session::replay::{Replay, ReplayReading};
-use view_session::seen::picture_of;
 use view_session::watch::condition_of;
 use view_text::writer::Writer;
 use view_walk::walk::Walk;
@@ -63,10 +62,10 @@ pub fn add_state(
     sheet: &mut Sheet,
 ) -> Result<(), AllocError> {
     let moves = walk.moves()?;
-    let picture = picture_of(walk.world());
+    let live = walk.world().live();
     sheet.show_anew();
     add_start(
-        &picture,
+        live,
         setting.name,
         setting.is_lossy,
         moves.as_slice(),
@@ -109,8 +108,8 @@ pub fn ask(
         at: walk.at(),
         of: walk.legs().len(),
     };
-    let picture = picture_of(walk.world());
-    add_question(&picture, moves.as_slice(), place, stopped, &mut sheet.lines);
+    let live = walk.world().live();
+    add_question(live, moves.as_slice(), place, stopped, &mut sheet.lines);
     Ok(())
 }
 
@@ -159,13 +158,13 @@ fn why(
     process: Option<usize>,
     sheet: &mut Sheet,
 ) -> Result<Answered, AllocError> {
-    let picture = picture_of(walk.world());
+    let live = walk.world().live();
     if let Some(process) = process {
-        if process >= picture.process_count() {
+        if process >= live.process_count() {
             return Ok(wrong(b"no such process", sheet));
         }
     }
-    add_why(&picture, process, &mut sheet.lines)?;
+    add_why(live, process, &mut sheet.lines)?;
     Ok(Answered::Question)
 }
 
@@ -244,7 +243,7 @@ pub fn answer(
 // Whether a condition holds where a walk stands; one with a fault does not.
 fn holds(walk: &Walk<'_, '_>, condition: &Option<StateCondition>) -> bool {
     match condition {
-        Some(condition) => match condition.worth(&picture_of(walk.world())) {
+        Some(condition) => match condition.worth(walk.world().live()) {
             Ok(worth) => worth != 0,
             Err(_) => false,
         },

@@ -6,8 +6,8 @@ ghost use Rattle.view_tokens.specs.Printed.{Stays};
 ghost use Rattle.view_text.specs.Written.{Stays as KeepsRefusal};
 
 use promela_run::moves::Move;
+use run_state::live::Live;
 use std::alloc::AllocError;
-use view_cells::picture::Picture;
 use view_json::choice::add_choices;
 use view_json::counted::Counted;
 use view_json::lines::begin;
@@ -48,7 +48,7 @@ pub struct WalkStanding {
 
 /// Writes the question: where a walk stands, and the present moves, each as an object.
 pub fn add_question(
-    picture: &Picture<'_, '_, '_>,
+    live: &Live<'_, '_>,
     moves: &[Move],
     place: WalkStanding,
     stopped: Option<RunHalt>,
@@ -62,52 +62,46 @@ pub fn add_question(
     add_stopped(&mut json, stopped);
     json.key("choices");
     json.begin_array();
-    add_choices(picture, &mut json, moves);
+    add_choices(live, &mut json, moves);
     json.end_array();
     end(json, out);
 }
 
 // Writes where a process stands, in how many moves it takes part, and what it waits for.
-fn add_standing(picture: &Picture<'_, '_, '_>, moves: &Counted<'_>, process: usize, json: &mut Json)
-    ensures { moves.now ≡ all_moves picture.now → Stays json.old json.new }
+fn add_standing(live: &Live<'_, '_>, moves: &Counted<'_>, process: usize, json: &mut Json)
+    ensures { moves.now ≡ all_moves live.now.state → Stays json.old json.new }
 {
-    standing(picture, json, moves, process);
+    standing(live, json, moves, process);
     json.end_object();
 }
 
 // Writes this of each process from one on to before another.
-fn add_each(
-    picture: &Picture<'_, '_, '_>,
-    moves: &Counted<'_>,
-    from: usize,
-    to: usize,
-    json: &mut Json,
-)
-    ensures { moves.now ≡ all_moves picture.now → Stays json.old json.new }
+fn add_each(live: &Live<'_, '_>, moves: &Counted<'_>, from: usize, to: usize, json: &mut Json)
+    ensures { moves.now ≡ all_moves live.now.state → Stays json.old json.new }
 {
     for process in from..to {
-        add_standing(picture, moves, process, json);
+        add_standing(live, moves, process, json);
     }
 }
 
 /// Writes why a process has no move, or each.
 pub fn add_why(
-    picture: &Picture<'_, '_, '_>,
+    live: &Live<'_, '_>,
     process: Option<usize>,
     out: &mut Writer,
 ) -> Result<(), AllocError>
     ensures { KeepsRefusal out.old out.new }
 {
-    let present = moves_in(out.allocator(), picture)?;
-    let moves = Counted::new(out.allocator(), picture.process_count(), present.as_slice())?;
+    let present = moves_in(out.allocator(), live)?;
+    let moves = Counted::new(out.allocator(), live.process_count(), present.as_slice())?;
     let (from, to) = match process {
         Some(process) => (process, process.saturating_add(1)),
-        None => (0, picture.process_count()),
+        None => (0, live.process_count()),
     };
     let mut json = begin(out.allocator(), "why");
     json.key("processes");
     json.begin_array();
-    add_each(picture, &moves, from, to, &mut json);
+    add_each(live, &moves, from, to, &mut json);
     json.end_array();
     end(json, out);
     Ok(())

@@ -6,4 +6,4 @@ use Rattle.view_json.proofs.changed.each_changed.Goals as goal
 pub loop-change-preserved : goal.loop-change-preserved
 loop-change-preserved c =
     chain _ _ _ _ _ _ c.loop-change.invariant c.changed_cell.ensures
-    (item_more (changed_cell c.args.picture.now c.args.frame) c.args.changes.now c.loop-change.change-index _ c.loop-change-test.true)
+    (item_more (changed_cell c.args.live.now.state c.args.frame) c.args.changes.now c.loop-change.change-index _ c.loop-change-test.true)

@@ -6,4 +6,4 @@ use Rattle.view_json.specs.Shown.{changed_cell}
 use Rattle.view_json.proofs.changed.each_changed.Given as goal
 
 abbrev pub invariant-loop-change : goal.invariant-loop-change
-invariant-loop-change l = Writes l.initial.json l.json (flat_map (changed_cell l.picture l.frame) (take l.change-index l.changes))
+invariant-loop-change l = Writes l.initial.json l.json (flat_map (changed_cell l.live.state l.frame) (take l.change-index l.changes))

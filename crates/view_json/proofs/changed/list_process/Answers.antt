@@ -11,7 +11,7 @@ returns-then-is_same c ts is ends can_read = more_unless c.args.list.now _ c.arg
 
 pub returns : goal.returns
 returns c ts is ends can_read =
-    let s = c.args.picture.now in
+    let s = c.args.live.now.state in
     let p = c.args.process in
     let older = c.args.behind.older in
     let cs = c.args.behind.changes.now in

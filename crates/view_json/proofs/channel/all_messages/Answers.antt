@@ -10,7 +10,7 @@ use Rattle.view_json.proofs.channel.all_messages.Goals as goal
 
 pub loop-place-preserved : goal.loop-place-preserved
 loop-place-preserved c =
-    let pr = c.args.picture.now.program in
+    let pr = c.args.live.now.state.program in
     let ms : List (List ℤ) = c.args.channel.now.messages in
     let f = message pr c.args.channel.now.types in
     let i = c.loop-place.place in

@@ -6,4 +6,4 @@ use Rattle.view_json.specs.Objects.{message}
 use Rattle.view_json.proofs.channel.all_messages.Given as goal
 
 abbrev pub invariant-loop-place : goal.invariant-loop-place
-invariant-loop-place l = Writes l.initial.json l.json (flat_map (message l.picture.program l.channel.types) (take l.place l.channel.messages))
+invariant-loop-place l = Writes l.initial.json l.json (flat_map (message l.live.state.program l.channel.types) (take l.place l.channel.messages))

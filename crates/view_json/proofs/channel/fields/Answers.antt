@@ -5,4 +5,4 @@ use Rattle.view_json.proofs.channel.fields.Goals as goal
 
 pub loop-at-preserved : goal.loop-at-preserved
 loop-at-preserved c =
-    chain _ _ _ _ _ _ c.loop-at.invariant c.field.ensures (each_more (field c.args.picture.now.program c.args.types.now c.args.numbers.now) c.loop-at.at)
+    chain _ _ _ _ _ _ c.loop-at.invariant c.field.ensures (each_more (field c.args.live.now.state.program c.args.types.now c.args.numbers.now) c.loop-at.at)

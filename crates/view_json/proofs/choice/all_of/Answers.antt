@@ -13,7 +13,7 @@ use Rattle.view_json.proofs.choice.all_of.Goals as goal
 pub returns : goal.returns
 returns c =
     let told = c.add_choices.ensures in
-    let s = c.args.picture.now in
+    let s = c.args.live.now.state in
     let ms = c.args.moves.now in
     let ts = choices s ms told.0 in
     let are = are_objects s ms told.0 c.requires told.1 in

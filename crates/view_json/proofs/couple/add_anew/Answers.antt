@@ -7,7 +7,7 @@ use Rattle.view_json.proofs.couple.add_anew.Goals as goal
 
 pub returns-clause-choice : goal.returns-clause-choice
 returns-clause-choice c =
-    let s = c.args.picture.now in
+    let s = c.args.live.now.state in
     let of = c.args.of in
     let told = c.renew.ensures.meets in (
       told.effect,

@@ -6,4 +6,4 @@ pub returns : goal.returns
 returns c =
     chained _ _ _ _ _ c.key.ensures
     (chained _ _ _ _ _ c.begin_object.ensures
-    (chained _ _ _ _ _ (c.join.ensures.known (actor c.args.picture.now c.args.receiver.now.pick) (λ calm. (c.requires calm).written)) c.end_object.ensures))
+    (chained _ _ _ _ _ (c.join.ensures.known (actor c.args.live.now.state c.args.receiver.now.pick) (λ calm. (c.requires calm).written)) c.end_object.ensures))

@@ -11,5 +11,5 @@ returns-clause-meets c =
       partner = c.know-2.ensures.knows;
       deal = c.keep_deal.ensures;
       effect = told.0;
-      whole = λ calm. told.1.added calm ∙ ap (λ (j : Printed). j.tokens ++ choice c.args.picture.now (Pair c.know.new.known.pick c.know-2.new.known.pick false) told.0) c.clear.ensures;
+      whole = λ calm. told.1.added calm ∙ ap (λ (j : Printed). j.tokens ++ choice c.args.live.now.state (Pair c.know.new.known.pick c.know-2.new.known.pick false) told.0) c.clear.ensures;
     }

@@ -9,7 +9,7 @@ use Rattle.view_json.proofs.couple.settle.Goals as goal
 
 pub returns-then-is_same-clause-meets : goal.returns-then-is_same-clause-meets
 returns-then-is_same-clause-meets c =
-    let s = c.args.picture.now in
+    let s = c.args.live.now.state in
     let of = c.args.of in
     let old = c.args.last.now in
     let had = c.requires.meets in

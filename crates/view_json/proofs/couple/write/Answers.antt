@@ -10,7 +10,7 @@ returns c = λ late.
       record { deals = deal.deals; words = deal.words },
       chained _ _ _ _ _ c.begin_object.ensures
           (chained _ _ _ _ _
-          (chained _ _ _ _ _ (c.join.ensures.known (actor c.args.picture.now c.args.sender.now.pick) (λ calm. (c.requires.sender calm).written))
+          (chained _ _ _ _ _ (c.join.ensures.known (actor c.args.live.now.state c.args.sender.now.pick) (λ calm. (c.requires.sender calm).written))
           (chained _ _ _ _ _ (c.join-2.ensures.known _ deal.done) (chained _ _ _ _ _ c.add_partner.ensures (c.join-3.ensures.known _ deal.effect))))
           c.end_object.ensures),
     )

@@ -13,7 +13,7 @@ use Rattle.view_json.proofs.lines.add_end.Goals as goal
 
 pub returns : goal.returns
 returns c =
-    let s = c.args.picture.now in
+    let s = c.args.live.now.state in
     let ms = c.args.moves.now in
     let told = c.told_choices.ensures in
     let past = c.add_past.ensures in

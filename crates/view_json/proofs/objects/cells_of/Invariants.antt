@@ -6,4 +6,4 @@ use Rattle.view_json.specs.Objects.{cell}
 use Rattle.view_json.proofs.objects.cells_of.Given as goal
 
 abbrev pub invariant-loop-at : goal.invariant-loop-at
-invariant-loop-at l = Writes l.initial.json l.json (flat_map (λ at. cell l.picture (place l.frame l.variable at)) (range_with_len 0 l.at))
+invariant-loop-at l = Writes l.initial.json l.json (flat_map (λ at. cell l.live.state (place l.frame l.variable at)) (range_with_len 0 l.at))

@@ -5,4 +5,4 @@ use Rattle.view_json.proofs.objects.members.Goals as goal
 
 pub loop-variable-preserved : goal.loop-variable-preserved
 loop-variable-preserved c =
-    chain _ _ _ _ _ _ c.loop-variable.invariant c.cells_of.ensures (each_more (variable_cells c.args.picture.now c.args.frame) c.loop-variable.variable)
+    chain _ _ _ _ _ _ c.loop-variable.invariant c.cells_of.ensures (each_more (variable_cells c.args.live.now.state c.args.frame) c.loop-variable.variable)

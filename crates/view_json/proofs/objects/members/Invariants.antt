@@ -5,4 +5,4 @@ use Rattle.view_json.specs.Objects.{variable_cells}
 use Rattle.view_json.proofs.objects.members.Given as goal
 
 abbrev pub invariant-loop-variable : goal.invariant-loop-variable
-invariant-loop-variable l = Writes l.initial.json l.json (flat_map (variable_cells l.picture l.frame) (range_with_len 0 l.variable))
+invariant-loop-variable l = Writes l.initial.json l.json (flat_map (variable_cells l.live.state l.frame) (range_with_len 0 l.variable))

@@ -6,5 +6,5 @@ use Rattle.view_json.proofs.process.all_of.Goals as goal
 
 pub returns : goal.returns
 returns c are =
-    waits_refused c.args.picture.now c.args.process (waits c.args.picture.now c.args.process) c.args.json.now c.refuse.new.self
+    waits_refused c.args.live.now.state c.args.process (waits c.args.live.now.state c.args.process) c.args.json.now c.refuse.new.self
     (ap (λ (j : Printed). j.refused) c.refuse.ensures)

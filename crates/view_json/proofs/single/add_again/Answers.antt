@@ -9,6 +9,6 @@ pub returns-clause-choice : goal.returns-clause-choice
 returns-clause-choice c =
     let told = c.settle.ensures.tells in (
       told.effect,
-      subst (λ (k : Pick). Writes c.args.json.now c.join.new.self (choice c.args.picture.now (Alone k c.args.is_late) told.effect)) c.settle.ensures.pick
+      subst (λ (k : Pick). Writes c.args.json.now c.join.new.self (choice c.args.live.now.state (Alone k c.args.is_late) told.effect)) c.settle.ensures.pick
           (c.join.ensures.known _ told.whole),
     )

@@ -11,7 +11,7 @@ returns-in-Ok-clause-tells c =
     let told = c.write.ensures false in record {
       first = c.know.ensures.knows;
       effect = told.0;
-      whole = λ calm. told.1.added calm ∙ ap (λ (j : Printed). j.tokens ++ choice c.args.picture.now (Alone c.know.new.known.pick false) told.0) c.clear.ensures;
+      whole = λ calm. told.1.added calm ∙ ap (λ (j : Printed). j.tokens ++ choice c.args.live.now.state (Alone c.know.new.known.pick false) told.0) c.clear.ensures;
     }
 
 pub returns-in-Err-clause-tells : goal.returns-in-Err-clause-tells

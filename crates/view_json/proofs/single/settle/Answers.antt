@@ -4,7 +4,7 @@ use Rattle.view_json.proofs.single.settle.Goals as goal
 
 pub returns-then-is_same-clause-tells : goal.returns-then-is_same-clause-tells
 returns-then-is_same-clause-tells c =
-    let s = c.args.picture.now in
+    let s = c.args.live.now.state in
     let first = c.args.last.now.first in
     let same = c.requires.alike in
     let of = alike_is s first c.args.pick c.args.seen c.requires.seen c.requires.tells.first same in record {

@@ -8,6 +8,6 @@ returns c = λ late. (
   record { deals = dealt c.args.done.now; words = c.effect_of.ensures.0 },
   chained _ _ _ _ _ c.begin_object.ensures
       (chained _ _ _ _ _
-      (chained _ _ _ _ _ (c.join.ensures.known (actor c.args.picture.now c.args.first.now.pick) (λ calm. (c.requires calm).written)) (chained _ _ _ _ _ c.transfer.ensures c.effect_of.ensures.1))
+      (chained _ _ _ _ _ (c.join.ensures.known (actor c.args.live.now.state c.args.first.now.pick) (λ calm. (c.requires calm).written)) (chained _ _ _ _ _ c.transfer.ensures c.effect_of.ensures.1))
       c.end_object.ensures),
 )

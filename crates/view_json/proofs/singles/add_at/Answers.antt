@@ -6,4 +6,4 @@ use Rattle.view_json.proofs.singles.add_at.Goals as goal
 
 pub returns-else-at-len-clause-choice : goal.returns-else-at-len-clause-choice
 returns-else-at-len-clause-choice c =
-    choice_refused c.args.picture.now (Alone c.args.pick c.args.is_late) c.args.json.now c.refuse.new.self (ap (λ (j : Printed). j.refused) c.refuse.ensures)
+    choice_refused c.args.live.now.state (Alone c.args.pick c.args.is_late) c.args.json.now c.refuse.new.self (ap (λ (j : Printed). j.refused) c.refuse.ensures)

@@ -9,7 +9,7 @@ use Rattle.view_json.proofs.start.add_start.Goals as goal
 pub returns : goal.returns
 returns c is =
     let all = c.in_ok-add_objects.ensures is in
-    let s = c.args.picture.now in
+    let s = c.args.live.now.state in
     let ms = c.args.moves.now in
     let before = c.args.shown.now in
     let first = start s c.args.model.now c.args.is_lossy in (

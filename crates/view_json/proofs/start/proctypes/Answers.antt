@@ -9,7 +9,7 @@ use Rattle.view_json.proofs.start.proctypes.Goals as goal
 
 pub returns : goal.returns
 returns c =
-    let same : c.as_slice.result.now ≡ c.args.picture.now.program.proctypes = c.as_slice.ensures ∙ ap (λ (pr : Program). pr.proctypes) c.program.ensures in
+    let same : c.as_slice.result.now ≡ c.args.live.now.state.program.proctypes = c.as_slice.ensures ∙ ap (λ (pr : Program). pr.proctypes) c.program.ensures in
     chained _ _ _ _ _ c.key.ensures
     (chained _ _ _ _ _ c.begin_array.ensures
     (chained _ _ _ _ _ (subst (λ (qs : List Proctype). Writes c.begin_array.new.self c.each_proctype.new.json (flat_map proctype qs)) same c.each_proctype.ensures)

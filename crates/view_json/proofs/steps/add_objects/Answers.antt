@@ -11,7 +11,7 @@ pub returns : goal.returns
 returns c is =
     let one = c.in_ok-add_channels.ensures in
     let two = c.in_ok-add_processes.ensures is in
-    let s = c.args.picture.now in
+    let s = c.args.live.now.state in
     let b = c.args.behind in
     let before = c.args.shown.now in
     let objects = map print (processes_from s b.moves.now 0 two.0) in

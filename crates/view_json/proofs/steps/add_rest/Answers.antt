@@ -7,7 +7,7 @@ use Rattle.view_json.proofs.steps.add_rest.Goals as goal
 
 pub returns : goal.returns
 returns c choices lists =
-    let s = c.args.picture.now in
+    let s = c.args.live.now.state in
     let k = c.args.done.same_as in
     let n = c.args.done.note in
     let listed = c.end.ensures.written (codes "choices") choices choices_heading lists in

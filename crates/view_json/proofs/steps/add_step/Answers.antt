@@ -9,7 +9,7 @@ pub returns : goal.returns
 returns c is ends choices lists =
     let all = c.in_ok-add_objects.ensures is in
     let behind = c.add_rest.ensures choices lists in
-    let s = c.args.picture.now in
+    let s = c.args.live.now.state in
     let ms = c.args.moves.now in
     let d = c.args.done in
     let before = c.args.shown.now in

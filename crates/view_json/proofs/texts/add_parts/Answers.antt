@@ -6,7 +6,7 @@ use Rattle.view_json.proofs.texts.add_parts.Goals as goal
 
 pub returns-then-are_same-clause-written : goal.returns-then-are_same-clause-written
 returns-then-are_same-clause-written c =
-    let s = c.args.picture.now in
+    let s = c.args.live.now.state in
     let line = c.index-line.result.now in
     let within = c.if-at-len.true in
     let len = c.len.ensures in
@@ -14,4 +14,4 @@ returns-then-are_same-clause-written c =
     c.join.ensures.known _ (same_text s c.args.m line c.args.parts reads (sym c.are_same.ensures ∙ c.if-are_same.true) c.requires.tells)
 
 pub add_at-requires-clause-read : goal.add_at-requires-clause-read
-add_at-requires-clause-read c = c.place_for-at.ensures c.args.picture.now c.requires.read
+add_at-requires-clause-read c = c.place_for-at.ensures c.args.live.now.state c.requires.read

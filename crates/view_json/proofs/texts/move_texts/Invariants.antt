@@ -9,4 +9,4 @@ use Rattle.view_json.specs.Texts.{Reads}
 use Rattle.view_json.proofs.texts.move_texts.Given as goal
 
 abbrev pub invariant-loop-m : goal.invariant-loop-m
-invariant-loop-m l = Writes l.initial.json l.json (flat_map (λ m. text (move_text l.picture m)) (take l.m-index l.moves)) × All (Reads l.picture) l.last.all.items
+invariant-loop-m l = Writes l.initial.json l.json (flat_map (λ m. text (move_text l.live.state m)) (take l.m-index l.moves)) × All (Reads l.live.state) l.last.all.items

@@ -4,4 +4,4 @@ use Rattle.view_tokens.specs.Printed.{Stays}
 use Rattle.walk_lines.proofs.lines.add_each.Given as goal
 
 abbrev pub invariant-loop-process : goal.invariant-loop-process
-invariant-loop-process l = l.moves ≡ moves l.picture → Stays l.fn.json l.json
+invariant-loop-process l = l.moves ≡ moves l.live.state → Stays l.fn.json l.json

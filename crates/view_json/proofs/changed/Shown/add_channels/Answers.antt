@@ -7,7 +7,7 @@ use Rattle.view_json.proofs.changed.Shown.add_channels.Goals as goal
 pub returns : goal.returns
 returns c =
     let all = c.in_ok-self-inside.ensures in
-    let ts : List Token = new_ones c.args.self.now.channels 0 (channels_from c.args.picture.now 1 all.0) in
+    let ts : List Token = new_ones c.args.self.now.channels 0 (channels_from c.args.live.now.state 1 all.0) in
     let lists = all.3 [] c.new-list.ensures in (
       all.0,
       all.1,

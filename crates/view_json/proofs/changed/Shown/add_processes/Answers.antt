@@ -7,7 +7,7 @@ use Rattle.view_json.proofs.changed.Shown.add_processes.Goals as goal
 pub returns : goal.returns
 returns c is =
     let all = c.in_ok-self-inside.ensures is in
-    let s = c.args.picture.now in
+    let s = c.args.live.now.state in
     let b = c.args.behind in
     let ts : List Token = changed_ones s c.args.self.now.processes b.older b.changes.now 0 (processes_from s b.moves.now 0 all.0) in
     let lists = all.4 [] c.new-list.ensures in (

@@ -7,7 +7,7 @@ use Rattle.view_json.proofs.counted.Counted.add_waits.Goals as goal
 
 pub returns-then-of-gt0 : goal.returns-then-of-gt0
 returns-then-of-gt0 c are =
-    let s = c.args.picture.now in
+    let s = c.args.live.now.state in
     let p = c.args.process in
     let some : is_in p c.args.self.now ≡ true = counted_in p c.args.self.now (subst (λ (n : ℕ). 0 < n) c.of.ensures (search rules)) in
     let there = subst (λ (ms : List Move). is_in p ms ≡ true) are some in
