@@ -43,7 +43,7 @@ fn variable<'a>(
     let size = size(alloc, &v.size, owner, out)?;
     let makes = initial(alloc, role, &v.sort, &v.initial, owner, out)?;
     let declared = Declared::Variable(role, copied(&v.sort), size, makes);
-    add(What::Declares(v.name.copied(), declared), holder, out)
+    add(out, holder, What::Declares(v.name.copied(), declared))
 }
 
 fn copied<'a>(sort: &Sort<'a>) -> Sort<'a>
@@ -62,10 +62,10 @@ fn sort<'a>(sort: &Sort<'a>, owner: usize, out: &mut Items<Mark<'a>>) -> Result<
     match sort {
         Sort::Plain(_) => Ok(()),
         Sort::Unsigned(n) => {
-            add(What::Number(n.copied()), owner, out)?;
-            add(What::Width(n.copied()), owner, out)
+            add(out, owner, What::Number(n.copied()))?;
+            add(out, owner, What::Width(n.copied()))
         }
-        Sort::Named(t) => add(What::Typedef(t.copied()), owner, out),
+        Sort::Named(t) => add(out, owner, What::Typedef(t.copied())),
     }
 }
 
@@ -83,7 +83,7 @@ fn size<'a>(
         Some(e) => {
             expr(alloc, e.get(), owner, out)?;
             let n = constant(e.get());
-            add(What::Size(n), owner, out)?;
+            add(out, owner, What::Size(n))?;
             Ok(Some(n))
         }
     }
@@ -112,9 +112,9 @@ fn initial<'a>(
         Some(Initial::Channel(e, types)) => {
             expr(alloc, e.get(), owner, out)?;
             add(
-                What::Channel(holder(sort), constant(e.get()), types.len()),
-                owner,
                 out,
+                owner,
+                What::Channel(holder(sort), constant(e.get()), types.len()),
             )?;
             Ok(Makes::Channels)
         }
@@ -142,7 +142,7 @@ fn preset<'a>(
         Expr::Read(r) => reference(alloc, r, Use::Preset, owner, out),
         _ => {
             expr(alloc, e, owner, out)?;
-            add(What::Preset(constant(e)), owner, out)
+            add(out, owner, What::Preset(constant(e)))
         }
     }
 }

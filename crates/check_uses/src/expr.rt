@@ -11,7 +11,7 @@ use sqlite_items::Items;
 use std::alloc::{AllocError, Global};
 
 /// Adds a mark.
-pub fn add<'a>(what: What<'a>, owner: usize, out: &mut Items<Mark<'a>>) -> Result<(), AllocError>
+pub fn add<'a>(out: &mut Items<Mark<'a>>, owner: usize, what: What<'a>) -> Result<(), AllocError>
     ensures { OnOk result (out.new ≡ out.old ++ mark owner what.entry ∷ []) }
 {
     out.push(Mark { owner, what })
@@ -28,7 +28,7 @@ pub fn expr<'a>(
     ensures { OnOk result (out.new ≡ out.old ++ of_expr e.now owner) }
 {
     match e {
-        Expr::Number(n) => add(What::Number(n.copied()), owner, out),
+        Expr::Number(n) => add(out, owner, What::Number(n.copied())),
         Expr::Truth(_) => Ok(()),
         Expr::Timeout => Ok(()),
         Expr::Read(r) => reference(alloc, r, Use::Read, owner, out),
@@ -76,7 +76,7 @@ fn argument<'a>(
     ensures { OnOk result (out.new ≡ out.old ++ of_argument one.now owner) }
 {
     match one {
-        Argument::Exactly(_, n) => add(What::Number(n.copied()), owner, out),
+        Argument::Exactly(_, n) => add(out, owner, What::Number(n.copied())),
         Argument::Fixed(_) => Ok(()),
         Argument::Eval(a) => expr(alloc, a.get(), owner, out),
         Argument::Into(r) => reference(alloc, r, Use::Receive, owner, out),
@@ -99,7 +99,7 @@ pub fn reference<'a>(
     for field in r.fields.as_slice() {
         shapes.push(step(alloc, field, owner, out)?)?;
     }
-    add(What::Uses(used, shapes), owner, out)
+    add(out, owner, What::Uses(used, shapes))
 }
 
 #[cycle(expr)]

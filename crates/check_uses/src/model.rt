@@ -24,10 +24,10 @@ fn starts<'a>(
 {
     match s {
         Starts::Never => Ok(()),
-        Starts::Once => add(What::Starts(Constant::Is(1)), owner, out),
+        Starts::Once => add(out, owner, What::Starts(Constant::Is(1))),
         Starts::Times(e) => {
             expr(alloc, e.get(), 0, out)?;
-            add(What::Starts(constant(e.get())), owner, out)
+            add(out, owner, What::Starts(constant(e.get())))
         }
     }
 }
@@ -42,7 +42,7 @@ fn process<'a>(
     ensures { OnOk result (out.new ≡ out.old ++ of_process owner before p.now) }
 {
     let declared = Declared::Proctype(before, p.parameters.len());
-    add(What::Declares(p.name.copied(), declared), 0, out)?;
+    add(out, 0, What::Declares(p.name.copied(), declared))?;
     starts(alloc, &p.starts, owner, out)?;
     variables(
         alloc,
@@ -60,9 +60,9 @@ fn constants<'a>(names: &[Token<'a>], out: &mut Items<Mark<'a>>) -> Result<(), A
 {
     for i in (0..names.len()).rev() {
         add(
-            What::Declares(names[i].copied(), Declared::Constant),
-            0,
             out,
+            0,
+            What::Declares(names[i].copied(), Declared::Constant),
         )?;
     }
     Ok(())
@@ -83,9 +83,9 @@ fn unit<'a>(
         Unit::Typedef(name, fields) => {
             variables(alloc, Role::Field, number, fields.as_slice(), 0, out)?;
             add(
-                What::Declares(name.copied(), Declared::Typedef(number)),
-                0,
                 out,
+                0,
+                What::Declares(name.copied(), Declared::Typedef(number)),
             )
         }
         Unit::Proctype(p) => process(alloc, p, number, before, out),

@@ -21,7 +21,7 @@ fn run<'a>(
     ensures { OnOk result (out.new ≡ out.old ++ of_run r.now owner) }
 {
     exprs(alloc, r.arguments.as_slice(), owner, out)?;
-    add(What::Runs(r.name.copied(), r.arguments.len()), owner, out)
+    add(out, owner, What::Runs(r.name.copied(), r.arguments.len()))
 }
 
 /// Adds the marks of a statement that gives no structure.
@@ -56,7 +56,7 @@ pub fn action<'a>(
         }
         Action::Printf(text, all) => {
             exprs(alloc, all.as_slice(), owner, out)?;
-            add(What::Prints(text.copied(), all.len()), owner, out)
+            add(out, owner, What::Prints(text.copied(), all.len()))
         }
         Action::Printm(e) => expr(alloc, e.get(), owner, out),
         Action::Assert(e) => expr(alloc, e.get(), owner, out),
@@ -82,7 +82,7 @@ fn labels<'a>(all: &[Token<'a>], owner: usize, out: &mut Items<Mark<'a>>) -> Res
     ensures { OnOk result (out.new ≡ out.old ++ of_labels all.now owner) }
 {
     for one in all {
-        add(What::Label(one.copied()), owner, out)?;
+        add(out, owner, What::Label(one.copied()))?;
     }
     Ok(())
 }
@@ -100,23 +100,23 @@ fn basic<'a>(
         Basic::Declare(all) => variables(alloc, Role::Variable, owner, all.as_slice(), owner, out),
         Basic::Exclusive(all) => references(alloc, all.as_slice(), owner, out),
         Basic::Plain(a) => action(alloc, a.get(), owner, out),
-        Basic::Goto(l) => add(What::Goto(l.copied()), owner, out),
-        Basic::Break => add(What::Break, owner, out),
+        Basic::Goto(l) => add(out, owner, What::Goto(l.copied())),
+        Basic::Break => add(out, owner, What::Break),
         Basic::If(options) => seqs(alloc, options.as_slice(), owner, out),
         Basic::Do(options) => {
-            add(What::Enter(Structure::Do), owner, out)?;
+            add(out, owner, What::Enter(Structure::Do))?;
             seqs(alloc, options.as_slice(), owner, out)?;
-            add(What::Leave, owner, out)
+            add(out, owner, What::Leave)
         }
         Basic::Block(s) => seq(alloc, s, owner, out),
         Basic::Atomic(s) => seq(alloc, s, owner, out),
         Basic::DStep(s) => {
-            add(What::Enter(Structure::DStep), owner, out)?;
+            add(out, owner, What::Enter(Structure::DStep))?;
             seq(alloc, s, owner, out)?;
-            add(What::Leave, owner, out)
+            add(out, owner, What::Leave)
         }
         Basic::Unless(main, escape) => {
-            add(What::Unless, owner, out)?;
+            add(out, owner, What::Unless)?;
             seq(alloc, main, owner, out)?;
             seq(alloc, escape, owner, out)
         }

@@ -1,6 +1,6 @@
 //! Lists of expressions with commas between them.
 
-ghost use Rattle.std.specs.Prelude.{◌≡◌, length};
+ghost use Rattle.std.specs.Prelude.{◌≡◌, ◌∷◌, [], IfOk, length};
 ghost use Rattle.pml_expression.specs.Reading as reading;
 ghost use Rattle.pml_expression.specs.Reading.{Reads};
 
@@ -11,7 +11,7 @@ use pml_token::token::Kind;
 use pml_tree::room::room_for;
 use pml_tree::tree::Expr;
 use sqlite_items::Items;
-use std::alloc::Global;
+use std::alloc::{AllocError, Global};
 
 /// Expressions with commas between them, behind the first ones.
 #[tactic(auto, unfolding(crate::specs::Reading::list_from, crate::specs::Reading::and_then, crate::specs::Reading::pick))]
@@ -70,6 +70,15 @@ fn behind_first<'a>(
     expr_list(alloc, depth, first, tokens)
 }
 
+/// One item, as a list.
+pub fn alone<T: Drop>(alloc: Global, item: T) -> Result<Items<T>, AllocError>
+    ensures { IfOk result (λ r. r ≡ item ∷ []) }
+{
+    let mut items = room_for(alloc, 1)?;
+    items.push(item)?;
+    Ok(items)
+}
+
 /// What is sent.
 #[tactic(auto, unfolding(crate::specs::Reading::values, crate::specs::Reading::and_then))]
 pub fn values<'a>(
@@ -79,8 +88,6 @@ pub fn values<'a>(
 ) -> Result<Items<Expr<'a>>, ReadFault>
     ensures { Reads (reading.values depth tokens.old) result tokens.new }
 {
-    let x = expr(alloc, depth, 1, tokens)?;
-    let mut first = room_for(alloc, 1)?;
-    first.push(x)?;
+    let first = alone(alloc, expr(alloc, depth, 1, tokens)?)?;
     behind_first(alloc, depth, first, tokens)
 }

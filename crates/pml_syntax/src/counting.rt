@@ -8,8 +8,9 @@ ghost use Rattle.promela_grammar.specs.Actions as grammar;
 ghost use Rattle.promela_grammar.specs.Models as loops;
 
 use crate::boxes;
-use crate::lists::{alone, behind, joined};
+use crate::lists::{behind, joined};
 use crate::starts::Opening;
+use pml_expression::list::alone;
 use pml_token::token::{Kind, Token};
 use pml_tree::room::room_for;
 use pml_tree::tokens::Tokens;

@@ -6,15 +6,6 @@ use pml_tree::room::room_for;
 use sqlite_items::Items;
 use std::alloc::{AllocError, Global};
 
-/// One item, as a list.
-pub fn alone<T: Drop>(alloc: Global, item: T) -> Result<Items<T>, AllocError>
-    ensures { IfOk result (λ r. r ≡ item ∷ []) }
-{
-    let mut items = room_for(alloc, 1)?;
-    items.push(item)?;
-    Ok(items)
-}
-
 /// These items, and then one.
 pub fn behind<T: Drop>(mut items: Items<T>, item: T) -> Result<Items<T>, AllocError>
     ensures { IfOk result (λ r. r ≡ items ++ item ∷ []) }
