@@ -62,7 +62,7 @@ impl Live<'_, '_> {
     }
 
     /// What a wide code of a process stores, if anything.
-    #[inline(always)]
+    #[inline(never)]
     fn wide_stored(&self, process: usize, code: &WideCode) -> Result<Option<FlatStore>, Fault>
         requires process { process < length self.now.state.stands }
         requires there { HasWide self.now.state process code.now }
@@ -74,7 +74,7 @@ impl Live<'_, '_> {
     }
 
     /// Whether a wide code of a process can be taken.
-    #[inline(always)]
+    #[inline(never)]
     fn wide_taken(&self, process: usize, code: &WideCode) -> bool
         requires process { process < length self.now.state.stands }
         requires there { HasWide self.now.state process code.now }
@@ -131,7 +131,7 @@ impl Live<'_, '_> {
     }
 
     /// Whether the statement with this number can be taken by itself by a process, if it has a wide code.
-    #[inline(never)]
+    #[inline(always)]
     fn can_wide(&self, process: usize, statement: usize) -> Option<bool>
         requires { process < length self.now.state.stands }
         ensures { IfSome result (AnswersCan self.now.state process statement) }
@@ -144,7 +144,7 @@ impl Live<'_, '_> {
     }
 
     /// Takes the statement with this number as `store` does, if it has a wide code.
-    #[inline(never)]
+    #[inline(always)]
     fn store_wide(&mut self, process: usize, statement: usize) -> Option<Result<(), Stop>>
         requires { process < length self.old.state.stands }
         ensures value { IfSome result (StoresBy self.old.state process statement self.new.state) }
