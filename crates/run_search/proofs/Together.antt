@@ -1,5 +1,5 @@
 -- Where every process can take the same, one is asked for all.
-use Rattle.std.proofs.Common.{◌≡◌, ℕ, zero, suc, ◌+◌, ◌-◌, ◌<◌, ◌≤◌, Bool, true, false, nat_eq, min, List, [], ◌∷◌, ◌++◌, take, drop, get_or, map, length, append-nil, append_assoc, length-append, Some, refl, sym, ap, subst, ◌∙◌, arith}
+use Rattle.std.proofs.Common.{◌≡◌, ℕ, zero, suc, ◌+◌, ◌-◌, ◌<◌, ◌≤◌, Bool, true, false, nat_eq, nat_lt, ◌&&◌, min, List, [], ◌∷◌, ◌++◌, take, drop, get_or, map, length, append-nil, append_assoc, length-append, Some, refl, sym, ap, subst, ◌∙◌, arith}
 use Rattle.std.specs.Prelude.{slice_get}
 use Rattle.std.proofs.lemmas.List.{drop_all, length-map, length-take, take-append-le}
 use Rattle.std.proofs.Math.Seq.{take-length}
@@ -134,13 +134,26 @@ seat_there s xs p d e l =
 pub only_there : (s : State) (x : Seat) (p : ℕ) → slice_get s.stands p ≡ Some (stand_of s.program x) → StandThere s x p (p + 1)
 only_there s x p at m a b = let is : m ≡ p = omega (arith, a, b) in ap (slice_get s.stands) is ∙ at
 
--- one more that stands there
-pub one_there : (s : State) (x : Seat) (first end : ℕ) → slice_get s.stands end ≡ Some (stand_of s.program x) → StandThere s x first end → StandThere s x first (end + 1)
-one_there s x first end at there m a b = by_place (nat_eq m end) refl
+-- some that stand there, and others behind them
+pub joined_there : (s : State) (x : Seat) (first at end : ℕ) → StandThere s x first at → StandThere s x at end → StandThere s x first end
+joined_there s x first at end there more m a b = by_place (nat_lt m at) refl
   where
-    by_place : (same : Bool) → nat_eq m end ≡ same → slice_get s.stands m ≡ Some (stand_of s.program x)
-    by_place true e = let is : m ≡ end = grind (arith, e) in ap (slice_get s.stands) is ∙ at
-    by_place false e = let c : m < end = grind (arith, b, e) in there m a c
+    by_place : (is : Bool) → nat_lt m at ≡ is → slice_get s.stands m ≡ Some (stand_of s.program x)
+    by_place true e = let c : m < at = grind (arith, e) in there m a c
+    by_place false e = let c : at ≤ m = grind (arith, e) in more m c b
+
+left_true : (p q : Bool) → (p && q) ≡ true → p ≡ true
+left_true true q e = refl
+left_true false q e = cc
+
+right_true : (p q : Bool) → (p && q) ≡ true → q ≡ true
+right_true true q e = e
+right_true false q e = cc
+
+-- where both are said to
+pub both_there : (s : State) (x : Seat) (first at end more : ℕ) (p q : Bool) → more ≡ end → (p ≡ true → StandThere s x first at) → (q ≡ true → StandThere s x at more) → (p && q) ≡ true → StandThere s x first end
+both_there s x first at end more p q e there behind both =
+    joined_there s x first at end (there (left_true p q both)) (subst (λ (n : ℕ). StandThere s x at n) e (behind (right_true p q both)))
 
 -- ---- moves that are copied
 

@@ -42,12 +42,58 @@ pub(crate) fn is_common_seat(live: &Live<'_, '_>, seat: Seat) -> bool
     }
 }
 
-/// Whether two processes stand at one place of one proctype.
+/// Whether two processes stand at one place of one proctype. Both numbers are compared, whatever the first says: so many can be
+/// compared at once.
 #[inline(always)]
 fn is_same(one: Seat, other: Seat) -> bool
     ensures { result ≡ true → one ≡ other }
 {
-    one.sort == other.sort && one.node == other.node
+    (one.sort == other.sort) & (one.node == other.node)
+}
+
+/// Whether a process stands there.
+#[inline(always)]
+fn is_at(live: &Live<'_, '_>, at: usize, seat: Seat) -> bool
+    requires { at < length live.now.state.stands }
+    ensures { result ≡ true → StandThere live.now.state seat at (at + 1) }
+{
+    is_same(live.seats()[at], seat)
+}
+
+/// Whether a process and the next one stand there.
+#[inline(always)]
+fn are_two_at(live: &Live<'_, '_>, at: usize, end: usize, seat: Seat) -> bool
+    requires order { at + 2 ≤ end }
+    requires lives { end ≤ length live.now.state.stands }
+    ensures { result ≡ true → StandThere live.now.state seat at (at + 2) }
+{
+    let one = is_at(live, at, seat);
+    let next = is_at(live, at + 1, seat);
+    one & next
+}
+
+/// Whether a process and the next three stand there.
+#[inline(always)]
+fn are_four_at(live: &Live<'_, '_>, at: usize, end: usize, seat: Seat) -> bool
+    requires order { at + 4 ≤ end }
+    requires lives { end ≤ length live.now.state.stands }
+    ensures { result ≡ true → StandThere live.now.state seat at (at + 4) }
+{
+    let one = are_two_at(live, at, end, seat);
+    let next = are_two_at(live, at + 2, end, seat);
+    one & next
+}
+
+/// Whether a process and the next seven stand there: they are compared at once.
+#[inline(always)]
+fn are_eight_at(live: &Live<'_, '_>, at: usize, end: usize, seat: Seat) -> bool
+    requires order { at + 8 ≤ end }
+    requires lives { end ≤ length live.now.state.stands }
+    ensures { result ≡ true → StandThere live.now.state seat at (at + 8) }
+{
+    let one = are_four_at(live, at, end, seat);
+    let next = are_four_at(live, at + 4, end, seat);
+    one & next
 }
 
 /// Whether a process stands there too, as those before it do from the first on.
@@ -57,21 +103,18 @@ fn is_there(live: &Live<'_, '_>, first: usize, at: usize, seat: Seat) -> bool
     requires before { StandThere live.now.state seat first at }
     ensures { result ≡ true → StandThere live.now.state seat first (at + 1) }
 {
-    is_same(live.seats()[at], seat)
+    is_at(live, at, seat)
 }
 
-/// Whether the next four, all older than another, stand there too.
+/// Whether the next eight, all older than another, stand there too.
 #[inline(always)]
-fn are_four_there(live: &Live<'_, '_>, first: usize, at: usize, younger: usize, seat: Seat) -> bool
-    requires order { at + 4 ≤ younger }
+fn are_eight_there(live: &Live<'_, '_>, first: usize, at: usize, younger: usize, seat: Seat) -> bool
+    requires order { at + 8 ≤ younger }
     requires lives { younger < length live.now.state.stands }
     requires before { StandThere live.now.state seat first at }
-    ensures { result ≡ true → StandThere live.now.state seat first (at + 4) }
+    ensures { result ≡ true → StandThere live.now.state seat first (at + 8) }
 {
-    is_there(live, first, at, seat)
-        && is_there(live, first, at + 1, seat)
-        && is_there(live, first, at + 2, seat)
-        && is_there(live, first, at + 3, seat)
+    are_eight_at(live, at, younger, seat)
 }
 
 /// Passes over those behind a process who stand where it does, by eights: up to whom they do, at most to the youngest.
@@ -85,10 +128,7 @@ fn behind_eights(live: &Live<'_, '_>, process: usize, youngest: usize, seat: Sea
     ensures there { StandThere live.now.state seat process result }
 {
     let mut at = process + 1;
-    while 8 <= youngest - at
-        && are_four_there(live, process, at, youngest, seat)
-        && are_four_there(live, process, at + 4, youngest, seat)
-    {
+    while 8 <= youngest - at && are_eight_there(live, process, at, youngest, seat) {
         at += 8;
     }
     at
@@ -105,7 +145,7 @@ pub(crate) fn next_elsewhere(live: &Live<'_, '_>, process: usize, seat: Seat) ->
     ensures older { process + 1 < result → result < length live.now.state.stands }
 {
     let youngest = live.process_count() - 1;
-    if process == youngest {
+    if process == youngest || !is_there(live, process, process + 1, seat) {
         return process + 1;
     }
     for at in behind_eights(live, process, youngest, seat)..youngest {

@@ -77,6 +77,7 @@ fn any_of(one: Interest, two: Interest, more: Interest) -> Interests
 
 impl Interests {
     /// What may be received so, or by a receive that asks for this.
+    #[inline(always)]
     fn or_asked(self, more: Interest) -> Interests
         ensures one { AsksMore result self }
         ensures other { (m : Sent) → may_take result m ≡ false → asks more m ≡ false }
@@ -153,6 +154,7 @@ impl Demand {
     }
 
     /// What may be received so, or by a receive.
+    #[inline(always)]
     fn or_receive(self, view: &View<'_>, target: &Target, arguments: &[Want]) -> Demand
         ensures one { AsksMore result.interests self.interests }
         ensures other { WantsNoOther result.interests view.now.channels.now (seen view.now) target.now arguments.now }
@@ -177,6 +179,7 @@ impl Demand {
     }
 
     /// The same, where one may send too.
+    #[inline(always)]
     fn or_send(self, view: &View<'_>, target: &Target, fields: &[Expr]) -> Demand
         ensures same { result.interests ≡ self.interests }
         ensures before { SaysLess result.own self.own }
@@ -195,6 +198,7 @@ impl Demand {
     }
 
     /// What may be received so, or by a statement without a structure.
+    #[inline(always)]
     fn or_action(self, view: &View<'_>, action: &Action<'_>) -> Demand
         ensures one { AsksMore result.interests self.interests }
         ensures other { ReceivesNoOther result.interests view.now.channels.now (seen view.now) (Some (Plain action.now)) }
@@ -211,6 +215,7 @@ impl Demand {
     }
 
     /// What may be received so, or by a statement.
+    #[inline(always)]
     fn or_by(self, view: &View<'_>, basic: Option<&Basic<'_>>) -> Demand
         ensures one { AsksMore result.interests self.interests }
         ensures other { ReceivesNoOther result.interests view.now.channels.now (seen view.now) (option_copied basic.entry) }
@@ -224,7 +229,7 @@ impl Demand {
     }
 
     /// What may be received so, or by a statement of process j.
-    #[inline(never)]
+    #[inline(always)]
     fn or_asked_of(
         self,
         live: &Live<'_, '_>,

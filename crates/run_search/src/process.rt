@@ -2,7 +2,7 @@
 
 #![tactic(auto, using(crate::proofs::Keeping::kept_on, crate::proofs::Keeping::kept_same, crate::proofs::Keeping::kept_push))]
 
-ghost use Rattle.std.specs.Prelude.{◌≡◌, ◌++◌, ◌<◌, Some, OnOk, length, slice_get};
+ghost use Rattle.std.specs.Prelude.{◌≡◌, ◌++◌, ◌<◌, [], Some, false, IfOk, OnOk, length, slice_get};
 ghost use Rattle.run_search.specs.Kept.{Extends};
 ghost use Rattle.run_state.specs.Coded.{HasBody};
 ghost use Rattle.run_state.specs.Standing.{stand_of, IsBody, shows};
@@ -21,7 +21,7 @@ use run_state::body::Body;
 use run_state::seat::Seat;
 use std::alloc::AllocError;
 
-/// Adds the moves of an offer, none where it is an `else`. What needs nothing is offered at once.
+/// Adds the moves of an offer, none where it is an `else`, and answers whether it is one. What needs nothing is offered at once.
 #[inline(always)]
 fn add_plain_by(
     round: &Round<'_, '_, '_>,
@@ -29,27 +29,29 @@ fn add_plain_by(
     offer: Pick,
     edge: &Edge,
     moves: &mut Vec<Move>,
-) -> Result<(), AllocError>
+) -> Result<bool, AllocError>
     requires known { IsKnown round.now }
     requires there { offer.process < length round.now.live.now.state.stands }
     requires body { IsBody body.now }
     requires stands { HasBody round.now.live.now.state offer.process body.now }
     ensures added { OnOk result (moves.new.items ≡ moves.old.items ++ round_plain_for round.now body.now offer edge.now) }
+    ensures other { IfOk result (λ is. is ≡ else_of (shows body.now edge.now).basic) }
     ensures kept { Extends moves.new.items moves.old.items }
 {
     let basic = body.basic(*edge);
     if needs_nothing(basic) {
         moves.reserve(1)?;
         moves.push_reserved(Move::Alone(offer, round.timeout));
-        return Ok(());
+        return Ok(false);
     }
     if is_else(basic) {
-        return Ok(());
+        return Ok(true);
     }
-    add_asked(round, body, offer, edge, moves)
+    add_asked(round, body, offer, edge, moves)?;
+    Ok(false)
 }
 
-/// Adds the moves of a level's offers that are no `else`.
+/// Adds the moves of a level's offers that are no `else`, and answers whether one is.
 #[inline(always)]
 fn add_plain(
     round: &Round<'_, '_, '_>,
@@ -57,18 +59,22 @@ fn add_plain(
     tier: Tier,
     edges: &[Edge],
     moves: &mut Vec<Move>,
-) -> Result<(), AllocError>
+) -> Result<bool, AllocError>
     requires known { IsKnown round.now }
     requires there { tier.process < length round.now.live.now.state.stands }
     requires body { IsBody body.now }
     requires stands { HasBody round.now.live.now.state tier.process body.now }
     ensures added { OnOk result (moves.new.items ≡ moves.old.items ++ round_plain round.now body.now tier edges.now) }
+    ensures other { IfOk result (λ is. is ≡ false → else_on body.now tier round.now.timeout edges.now ≡ []) }
     ensures kept { Extends moves.new.items moves.old.items }
 {
+    let mut has_else = false;
     for place in 0..edges.len() {
-        add_plain_by(round, body, tier.pick(place), &edges[place], moves)?;
+        if add_plain_by(round, body, tier.pick(place), &edges[place], moves)? {
+            has_else = true;
+        }
     }
-    Ok(())
+    Ok(has_else)
 }
 
 /// Adds an offer, where it is an `else`.
@@ -125,8 +131,11 @@ pub(crate) fn add_moves_on(
     ensures kept { Extends moves.new.items moves.old.items }
 {
     let before = moves.len();
-    add_plain(round, body, tier, edges, moves)?;
+    let has_else = add_plain(round, body, tier, edges, moves)?;
     if moves.len() != before {
+        return Ok(());
+    }
+    if !has_else {
         return Ok(());
     }
     add_else(body, tier, round.timeout, edges, moves)

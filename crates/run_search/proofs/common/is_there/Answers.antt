@@ -1,14 +1,6 @@
-use Rattle.std.proofs.Common.{Some, ap, ◌∙◌}
-use Rattle.run_state.specs.declared.seat.Seat.{Seat}
-use Rattle.run_state.specs.Standing.{stand_of}
-use Rattle.run_search.proofs.Together.{one_there, seat_there}
+use Rattle.std.proofs.Common.{◌+◌}
+use Rattle.run_search.proofs.Together.{joined_there}
 use Rattle.run_search.proofs.common.is_there.Goals as goal
 
 pub returns : goal.returns
-returns c same =
-    let s = c.args.live.now.state in
-    let d : Seat = record { sort = 0; node = 0 } in
-    one_there s c.args.seat c.args.first c.args.at
-    (seat_there s c.seats.result.now c.args.at d c.seats.ensures c.requires.lives
-    ∙ ap (λ (x : Seat). Some (stand_of s.program x)) (c.is_same.ensures same))
-    c.requires.before
+returns c is = joined_there c.args.live.now.state c.args.seat c.args.first c.args.at (c.args.at + 1) c.requires.before (c.is_at.ensures is)
